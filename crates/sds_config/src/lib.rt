@@ -1,0 +1,15 @@
+//! The configuration of a chain of nodes, as plain data: groups, links, channels, tables, triggers, routers,
+//! transforms and conflict settings. A number that stands for one of these is its place in its list, from 0.
+#![tactic(auto)]
+
+mod config;
+mod convert;
+mod route;
+
+pub use config::{Action, Algorithm, ChannelDef, Config, LinkDef};
+pub use convert::{
+    ColumnKind, ColumnPolicy, ConflictDef, DeleteAction, DetectType, Point, ResolveType,
+    TransformColumn, TransformDef,
+};
+pub use route::{RouterDef, RouterKind, TriggerDef, TriggerRouterDef};
+pub use sds_value::{ColumnDef, TableDef};

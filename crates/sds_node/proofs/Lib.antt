@@ -1,0 +1,4 @@
+pub mod Histories
+pub mod Found
+pub mod Written
+pub mod Known

@@ -1,0 +1,9 @@
+pub mod Causes
+pub mod Told
+pub mod Records
+pub mod Exchanges
+pub mod Stands
+pub mod StdStreams
+pub mod MemStreams
+pub mod MemKeeping
+pub mod MemLinking

@@ -1,0 +1,61 @@
+-- What a keeper in memory tells, and which of its calls fail.
+use Rattle.std.specs.Prelude.{◌≡◌, ℕ, Bool, true, List, Option, Some, drop}
+use Rattle.sds_outside.specs.Causes.{next_number, is_listed}
+use Rattle.sds_outside.specs.Stands.{stand_of}
+use Rattle.sds_outside.specs.Records.{Record}
+use Rattle.sds_outside.specs.declared.mem_keeper.FailAt.{FailAt}
+use Rattle.sds_outside.specs.declared.mem_keeper.MemKeeper.{MemKeeper}
+
+-- the records
+abbrev pub kept_records : MemKeeper → Option (List Record)
+kept_records k = Some (k.records.items)
+
+-- what the reading that runs will still give
+abbrev pub kept_unread : MemKeeper → Option (List Record)
+kept_unread k = Some (drop k.at k.records.items)
+
+-- how often the keeper failed
+abbrev pub kept_faults : MemKeeper → ℕ
+kept_faults k = k.faults
+
+-- the numbers of the calls of reopen and next that fail
+abbrev pub kept_reads : MemKeeper → List ℕ
+kept_reads k = k.reads.fails
+
+-- how many calls of reopen and next were made
+abbrev pub kept_read_calls : MemKeeper → ℕ
+kept_read_calls k = k.reads.made
+
+-- the commits that fail
+abbrev pub kept_commits : MemKeeper → List FailAt
+kept_commits k = k.commits
+
+-- how many commits were made
+abbrev pub kept_commit_calls : MemKeeper → ℕ
+kept_commit_calls k = k.commit_calls
+
+-- reopen answered Ok, and no call failed since
+abbrev pub IsKeptOpen : MemKeeper → Type 0
+IsKeptOpen k = k.opened ≡ true
+
+-- whether the next call of reopen or next fails
+abbrev pub read_fails : MemKeeper → Bool
+read_fails k = is_listed (kept_reads k) (next_number (kept_read_calls k))
+
+-- whether the next commit stands, where it fails
+abbrev pub next_stand : MemKeeper → Option Bool
+next_stand k = stand_of (kept_commits k) (next_number (kept_commit_calls k))
+
+-- one more reopen or next is counted, and the calls that fail are as before
+pub record CountsRead (old new : MemKeeper) : Type 0 where
+  pub read_calls : kept_read_calls new ≡ next_number (kept_read_calls old)
+  pub commit_calls : kept_commit_calls new ≡ kept_commit_calls old
+  pub reads : kept_reads new ≡ kept_reads old
+  pub commits : kept_commits new ≡ kept_commits old
+
+-- one more commit is counted, and the calls that fail are as before
+pub record CountsCommit (old new : MemKeeper) : Type 0 where
+  pub read_calls : kept_read_calls new ≡ kept_read_calls old
+  pub commit_calls : kept_commit_calls new ≡ next_number (kept_commit_calls old)
+  pub reads : kept_reads new ≡ kept_reads old
+  pub commits : kept_commits new ≡ kept_commits old

@@ -1,0 +1,4 @@
+pub mod Characters
+pub mod Integers
+pub mod Back
+pub mod Orders

@@ -1,0 +1,113 @@
+-- Which text reads as which value, the printed text of a value, and the order of values.
+-- A text that is read is given by its characters, a printed text by its bytes.
+-- The kinds INTEGER and VARCHAR are built. A last case stands for the others, and every call that reads or prints asks that its kind is built.
+use Rattle.std.specs.Prelude.{ℕ, ◌+◌, ◌-◌, ◌*◌, ◌^◌, Bool, true, false, not, ◌&&◌, ◌||◌, ◌==◌, nat_le, nat_lt, int_le, int_lt, if◌then◌else◌, List, [], ◌∷◌, length, ℤ, pos, neg_ℤ, Result, Ok, Err}
+use Rattle.std.specs.List.{list_all, list_any}
+use Rattle.std.specs.Char.{is_ascii_digit}
+use Rattle.std.specs.Fmt.{signed_decimal}
+use Rattle.std.specs.Str.{encode_utf8_all, all_scalars}
+use Rattle.std.specs.declared.cmp.Ordering.{Ordering}
+use Rattle.std.specs.Ordering.{nat_cmp, int_cmp, ordering_then}
+use Rattle.std.specs.Cmp.Lexicographic.{slice_cmp}
+use Rattle.sds_value.specs.declared.kind.Binary.{Binary}
+use Rattle.sds_value.specs.declared.kind.Kind.{Kind}
+use Rattle.sds_value.specs.declared.kind.Kind.TheVariants as Kinds
+use Rattle.sds_value.specs.declared.kind.Value.{Value}
+use Rattle.sds_value.specs.declared.kind.Value.TheVariants.{Null, Integer, Decimal, Text, Stamp, Bin}
+use Rattle.sds_value.specs.declared.refusal.ValueRefusal.{ValueRefusal}
+use Rattle.sds_value.specs.declared.refusal.ValueRefusal.TheVariants.{BadText, TooLong, OutOfRange}
+
+-- the kind is one of those that are built
+abbrev pub is_built : Kind → Bool
+is_built Kinds.Integer = true
+is_built (Kinds.Varchar n) = true
+is_built kind = false
+
+-- the number that decimal digits write: the sum of the digits times powers of ten
+abbrev pub digits_value : List ℕ → ℕ
+digits_value [] = 0
+digits_value (c ∷ cs) = (c - 48) * 10 ^ length cs + digits_value cs
+
+-- the text without one `+` or `-` in front
+abbrev pub without_sign : List ℕ → List ℕ
+without_sign [] = []
+without_sign (c ∷ cs) = if c == 43 || c == 45 then cs else c ∷ cs
+
+-- the text begins with `-`
+abbrev pub has_minus : List ℕ → Bool
+has_minus [] = false
+has_minus (c ∷ cs) = c == 45
+
+-- a sign or none, and then one decimal digit or more
+abbrev pub is_integer_text : List ℕ → Bool
+is_integer_text text = nat_lt 0 (length (without_sign text)) && list_all is_ascii_digit (without_sign text)
+
+-- the number that such a text writes
+abbrev pub integer_value : List ℕ → ℤ
+integer_value text = if has_minus text then neg_ℤ (pos (digits_value (without_sign text))) else pos (digits_value (without_sign text))
+
+-- the number lies in the range of 64 bits with a sign
+abbrev pub is_in_range : ℤ → Bool
+is_in_range z = int_le (neg_ℤ (pos (2 ^ 63))) z && int_lt z (pos (2 ^ 63))
+
+-- what a text reads as under INTEGER
+abbrev pub integer_of : List ℕ → Result Value ValueRefusal
+integer_of text = if is_integer_text text then (if is_in_range (integer_value text) then Ok (Integer (integer_value text)) else Err OutOfRange) else Err BadText
+
+-- the text has the character U+0000
+abbrev pub has_zero : List ℕ → Bool
+has_zero text = list_any (λ c. c == 0) text
+
+-- what a text reads as under VARCHAR(n)
+abbrev pub varchar_of : ℕ → List ℕ → Result Value ValueRefusal
+varchar_of n text = if has_zero text then Err BadText else (if nat_le (length text) n then Ok (Text text) else Err TooLong)
+
+-- what a text reads as, or why it doesn't, under a kind that is built
+-- The last case says nothing of the other kinds: they are not built yet, and every call asks that its kind is built.
+abbrev pub value_of : Kind → Binary → List ℕ → Result Value ValueRefusal
+value_of Kinds.Integer form text = integer_of text
+value_of (Kinds.Varchar n) form text = varchar_of n text
+value_of kind form text = Err BadText
+
+-- the value is one of this kind's form, whatever its size; null is of none
+abbrev pub is_of : Kind → Value → Bool
+is_of Kinds.Integer (Integer z) = true
+is_of (Kinds.Decimal s) (Decimal z) = true
+is_of (Kinds.Varchar n) (Text text) = true
+is_of Kinds.Timestamp (Stamp day nano) = true
+is_of (Kinds.Varbinary n) (Bin bytes) = true
+is_of kind value = false
+
+-- the value is one of this kind, which is built: a number in range, or a text of characters within the length and without U+0000
+abbrev pub fits : Kind → Value → Bool
+fits Kinds.Integer (Integer z) = is_in_range z
+fits (Kinds.Varchar n) (Text text) = all_scalars text && (not (has_zero text) && nat_le (length text) n)
+fits kind value = false
+
+-- the printed text of a value of a kind that is built: `-` where it is negative and digits without leading zeros, or the text itself in UTF-8
+abbrev pub printed : Value → List ℕ
+printed (Integer z) = signed_decimal z
+printed (Text text) = encode_utf8_all text
+printed value = []
+
+-- null first, then a place for each form of value
+abbrev pub form_place : Value → ℕ
+form_place Null = 0
+form_place (Integer z) = 1
+form_place (Decimal z) = 2
+form_place (Text text) = 3
+form_place (Stamp day nano) = 4
+form_place (Bin bytes) = 5
+
+-- the order of texts is that of their bytes in UTF-8
+abbrev pub text_order : List ℕ → List ℕ → Ordering
+text_order a b = slice_cmp nat_cmp (encode_utf8_all a) (encode_utf8_all b)
+
+-- the order of values: null is below every value, and values of two forms stand in the order of their places
+abbrev pub value_order : Value → Value → Ordering
+value_order (Integer a) (Integer b) = int_cmp a b
+value_order (Decimal a) (Decimal b) = int_cmp a b
+value_order (Text a) (Text b) = text_order a b
+value_order (Stamp day nano) (Stamp day' nano') = ordering_then (int_cmp day day') (nat_cmp nano nano')
+value_order (Bin a) (Bin b) = slice_cmp nat_cmp a b
+value_order a b = nat_cmp (form_place a) (form_place b)

@@ -1,0 +1,20 @@
+//! Kinds of values, fields of lines, tables' columns, rows of documents and peers.
+#![tactic(auto)]
+
+mod kind;
+mod laws;
+mod names;
+mod refusal;
+mod row;
+mod table;
+#[cfg(test)]
+mod tests;
+mod texts;
+
+pub use kind::{Binary, Kind, Value};
+pub use laws::{order_is_total, printed_reads_back, read_value_fits};
+pub use names::is_name;
+pub use refusal::ValueRefusal;
+pub use row::{DocRow, Event, Field, Peer};
+pub use sds_base::{List, Txt};
+pub use table::{ColumnDef, TableDef};

@@ -1,0 +1,140 @@
+ghost use Rattle.std.specs.Prelude.{◌≡◌, ◌≢◌, ◌++◌, IsTrue, MatchOption, OnOk, OnErr, length, false, true};
+ghost use Rattle.std.specs.List.{list_all};
+ghost use Rattle.std.specs.Char.{is_ascii_digit};
+ghost use Rattle.std.specs.Str.{chars};
+ghost use Rattle.sds_value.specs.Values.{value_of, integer_of, varchar_of, is_integer_text, without_sign, has_zero, printed, is_built, is_of, form_place, value_order};
+
+use crate::{Binary, Kind, Txt, Value, ValueRefusal};
+use sds_base::NoMemory;
+use std::alloc::Global;
+use std::cmp::Ordering;
+
+impl Value {
+    /// The value that a text reads as under a kind that is built. No text reads as null. The form settles how bytes
+    /// are written, which no kind that is built has. The kinds, their texts and their limits are symds' own.
+    ///
+    /// INTEGER: a sign or none, and one decimal digit or more; leading zeros read, and `-0` is 0. A number outside
+    /// the range of 64 bits is `OutOfRange`, and any other text `BadText`. VARCHAR(n): at most n characters, none of
+    /// them U+0000; a text with U+0000 is `BadText`, and a longer one `TooLong`. `NoMemory` comes of want of memory alone.
+    pub fn read(alloc: Global, kind: Kind, text: &str, form: Binary) -> Result<Value, ValueRefusal>
+        requires { IsTrue (is_built kind) }
+        ensures { result ≢ Err ValueRefusal.NoMemory → result ≡ value_of kind form (chars text.now) }
+    {
+        match kind {
+            Kind::Integer => read_integer(text),
+            Kind::Varchar(most) => read_varchar(alloc, text, most),
+            _ => Err(ValueRefusal::BadText),
+        }
+    }
+
+    /// Puts the printed text of the value, in UTF-8, behind `out`: of a number `-` where it is negative and its digits
+    /// without leading zeros, of a text the text itself. The kind and the form settle the text of the kinds that are
+    /// not built yet. Where memory is wanting, `out` stays as it was.
+    pub fn put(&self, kind: Kind, form: Binary, out: &mut Vec<u8>) -> Result<(), NoMemory>
+        requires built { IsTrue (is_built kind) }
+        requires of { IsTrue (is_of kind self.now) }
+        ensures ok { OnOk result (out.new.items ≡ out.old.items ++ printed self.now) }
+        ensures err { OnErr result (out.new.items ≡ out.old.items) }
+    {
+        match self {
+            Value::Integer(number) => {
+                let digits = number.to_string(*out.allocator())?;
+                out.extend_from_slice(digits.as_bytes())?;
+            }
+            Value::Text(text) => out.extend_from_slice(text.as_str().as_bytes())?,
+            _ => {}
+        }
+        Ok(())
+    }
+
+    /// The order of two values: null below every value, numbers by value, texts by their bytes in UTF-8, times by
+    /// day and then by nanosecond, bytes as lists. Values of two kinds have a fixed order too.
+    pub fn order(&self, other: &Value) -> Ordering
+        ensures { result ≡ value_order self.now other.now }
+    {
+        match (self, other) {
+            (Value::Integer(a), Value::Integer(b)) => a.cmp(b),
+            (Value::Decimal(a), Value::Decimal(b)) => a.cmp(b),
+            (Value::Text(a), Value::Text(b)) => a.as_str().cmp(b.as_str()),
+            (Value::Stamp { day, nano }, Value::Stamp { day: d, nano: n }) => {
+                day.cmp(d).then(nano.cmp(n))
+            }
+            (Value::Bin(a), Value::Bin(b)) => a.inner().as_slice().cmp(b.inner().as_slice()),
+            _ => form_place(self).cmp(&form_place(other)),
+        }
+    }
+}
+
+fn form_place(value: &Value) -> u8
+    ensures { result ≡ form_place value.now }
+{
+    match value {
+        Value::Null => 0,
+        Value::Integer(_) => 1,
+        Value::Decimal(_) => 2,
+        Value::Text(_) => 3,
+        Value::Stamp { .. } => 4,
+        Value::Bin(_) => 5,
+    }
+}
+
+fn read_integer(text: &str) -> Result<Value, ValueRefusal>
+    ensures { result ≡ integer_of (chars text.now) }
+{
+    if !is_integer(text.as_bytes()) {
+        return Err(ValueRefusal::BadText);
+    }
+    match text.parse::<i64>() {
+        Ok(number) => Ok(Value::Integer(number)),
+        Err(_) => Err(ValueRefusal::OutOfRange),
+    }
+}
+
+fn is_integer(bytes: &[u8]) -> bool
+    ensures { result ≡ is_integer_text bytes.now }
+{
+    let digits = behind_sign(bytes);
+    if digits.is_empty() {
+        return false;
+    }
+    all_digits(digits)
+}
+
+fn all_digits(bytes: &[u8]) -> bool
+    ensures { result ≡ list_all is_ascii_digit bytes.now }
+{
+    bytes.iter().all(|byte| byte.is_ascii_digit())
+}
+
+fn behind_sign(bytes: &[u8]) -> &[u8]
+    ensures { result.now ≡ without_sign bytes.now }
+{
+    match bytes {
+        [b'+' | b'-', digits @ ..] => digits,
+        digits => digits,
+    }
+}
+
+fn read_varchar(alloc: Global, text: &str, most: u16) -> Result<Value, ValueRefusal>
+    ensures { result ≢ Err ValueRefusal.NoMemory → result ≡ varchar_of most (chars text.now) }
+{
+    match count_characters(text) {
+        None => Err(ValueRefusal::BadText),
+        Some(count) if count <= most as usize => Ok(Value::Text(Txt::copied(alloc, text)?)),
+        Some(_) => Err(ValueRefusal::TooLong),
+    }
+}
+
+/// The number of the characters, and none where one of them is U+0000.
+fn count_characters(text: &str) -> Option<usize>
+    ensures { MatchOption result (has_zero (chars text.now) ≡ true) (λ count. (has_zero (chars text.now) ≡ false) × (count ≡ length (chars text.now))) }
+{
+    let mut count = 0;
+    for character in text.chars() {
+        if character == '\0' {
+            return None;
+        }
+        count += 1;
+    }
+    Some(count)
+}
