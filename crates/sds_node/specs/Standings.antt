@@ -1,5 +1,5 @@
--- Acks that a reply may hold, and the standings of batches as a list of their own, in the order of the batches.
-use Rattle.std.specs.Prelude.{ℕ, ◌+◌, ◌^◌, ◌≤◌, IfSome, Bool, if◌then◌else◌, List, [], ◌∷◌}
+-- The standings of batches as a list of their own, in the order of the batches.
+use Rattle.std.specs.Prelude.{ℕ, ◌+◌, Bool, if◌then◌else◌, List, [], ◌∷◌}
 use Rattle.sds_spec.specs.declared.answer.Ack.{Ack}
 use Rattle.sds_spec.specs.declared.batch.OutBatch.{OutBatch}
 use Rattle.sds_spec.specs.declared.batch.Standing.{Standing}
@@ -22,7 +22,3 @@ abbrev pub with_standings : List OutBatch → List Standing → List OutBatch
 with_standings [] standings = []
 with_standings batches [] = batches
 with_standings (batch ∷ batches) (standing ∷ standings) = record batch { standing = standing } ∷ with_standings batches standings
-
--- a batch's number is 1 to 2^62, and the number of a rule 1 to 16
-abbrev pub IsAck : Ack → Type 0
-IsAck ack = ((1 ≤ ack.batch) × (ack.batch ≤ 2 ^ 62)) × IfSome ack.error (λ (e : ℕ × ℕ). (1 ≤ e.1) × (e.1 ≤ 16))

@@ -1,15 +1,10 @@
 ghost use Rattle.std.specs.Prelude.{◌≡◌, ◌≢◌, ◌==◌, ◌≤◌, ◌^◌, ℕ, All, IfOk, OnErr, Ok, Err, [], true, false};
-ghost use Rattle.std.specs.List.{list_any};
 ghost use Rattle.std.specs.Str.{chars};
 ghost use Rattle.sds_value.specs.Names.{is_name_text};
 ghost use Rattle.sds_spec.specs.Acts.{History};
 ghost use Rattle.sds_spec.specs.Calls.{write_answer, write_acts, is_peer, acks_answer, acks_acts};
 ghost use Rattle.sds_spec.specs.Kept.{writer_in};
-ghost use Rattle.sds_spec.specs.Outcome.{is_whole_insert};
 ghost use Rattle.sds_spec.specs.Settled.{kept_number, all_ok};
-ghost use Rattle.sds_spec.specs.declared.batch.OutBatch.{OutBatch};
-ghost use Rattle.sds_value.specs.declared.row.DocRow.{DocRow};
-ghost use Rattle.sds_node.specs.Standings.{IsAck};
 ghost use Rattle.sds_spec.specs.One.{one, paired};
 ghost use Rattle.sds_node.specs.NewRows.{ArePairRows};
 
@@ -102,9 +97,8 @@ impl Node {
         Ok(offered(self.alloc, &self.kept.batches, to)?)
     }
 
-    /// The rows of one of the node's batches, as a document carries them.
+    /// The rows of one of the node's batches, as a document carries them; none for a number that is no batch's.
     pub fn rows(&self, batch: u64) -> Result<List<DocRow>, NoMemory>
-        requires { list_any (λ (b : OutBatch). b.id == batch) (kept_of self.now).batches ≡ true }
     {
         for kept in &self.kept.batches {
             if kept.id == batch {
@@ -119,9 +113,6 @@ impl Node {
     ///
     /// Refusals, in this order: no such peer; a number that would pass 2^62.
     pub fn load(&mut self, from: &str, channel: u32, batch: u64, rows: &[DocRow]) -> Result<LoadAnswer, PeerRefusal>
-        requires channel { channel ≡ 0 }
-        requires batch { (1 ≤ batch) × (batch ≤ 2 ^ 62) }
-        requires rows { All (λ (doc : DocRow). is_whole_insert one doc ≡ true) rows.now }
         ensures refused { OnErr result (kept_of self.new ≡ kept_of self.old) }
         ensures again { result ≡ Ok LoadAnswer.Again → kept_of self.new ≡ kept_of self.old }
     {
@@ -145,7 +136,6 @@ impl Node {
     ///
     /// Refusals, in this order: no such peer; the first number that is no batch to it; a number that would pass 2^62.
     pub fn take_acks(&mut self, from: &str, acks: &[Ack]) -> Result<u64, AckRefusal>
-        requires { All IsAck acks.now }
         ensures answer { result ≢ Err (AckRefusal.Fault NodeFault.NoMemory) → result ≡ acks_answer (kept_of self.old) (chars from.now) acks.now }
         // The node then stands for what it stood for, and the act of the call.
         ensures stands { (h : History) → StandsFor self.old h → StandsFor self.new (followed_by h (acks_acts result (chars from.now) acks.now)) }

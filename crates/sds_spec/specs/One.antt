@@ -36,6 +36,9 @@ pair_trigger = record {
   sync_on_insert = true; sync_on_update = true; sync_on_delete = true; sync_on_incoming_batch = false;
 }
 
+abbrev pub down_router : RouterDef
+down_router = record { id = codes "down"; source_group = 0; target_group = 1; kind = router.Default; expression = [] }
+
 abbrev pub one : Config
 one = record {
   groups = codes "corp" ∷ (codes "store" ∷ []);
@@ -43,7 +46,7 @@ one = record {
   channels = data_channel ∷ [];
   tables = pair_table ∷ [];
   triggers = pair_trigger ∷ [];
-  routers = record { id = codes "down"; source_group = 0; target_group = 1; kind = router.Default; expression = [] } ∷ [];
+  routers = down_router ∷ [];
   trigger_routers = record { trigger = 0; router = 0; enabled = true; ping_back_enabled = false } ∷ [];
   transforms = [];
   conflicts = [];

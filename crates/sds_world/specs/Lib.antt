@@ -1,0 +1,5 @@
+pub mod Looking
+pub mod Scenario
+pub mod Sound
+pub mod Splitting
+pub mod Words

@@ -1,0 +1,39 @@
+-- A scenario's writes have names as writers, and rows that the one table may have.
+use Rattle.std.specs.Prelude.{◌≡◌, true, IfSome, Option}
+use Rattle.sds_value.specs.Names.{is_name_text}
+use Rattle.sds_spec.specs.declared.event.WorldEvent.{WorldEvent}
+use Rattle.sds_spec.specs.declared.event.WorldEvent.TheVariants as event
+use Rattle.sds_spec.specs.Capture.{is_own_insert}
+use Rattle.sds_spec.specs.One.{one}
+use Rattle.sds_node.specs.NewRows.{ArePairRows}
+use Rattle.sds_world.specs.declared.line.Line.{Line}
+use Rattle.sds_world.specs.declared.line.Line.TheVariants.{Skip, Opening, Write, Row, End, Route, Push, Show, Other}
+use Rattle.sds_world.specs.declared.place.Draft.{Draft}
+use Rattle.sds_world.specs.declared.place.Place.{Place}
+
+abbrev pub IsSoundLine : Line → Type 0
+IsSoundLine Skip = Unit {0}
+IsSoundLine (Opening which) = Unit {0}
+IsSoundLine (Write writer number) = is_name_text writer ≡ true
+IsSoundLine (Row row) = is_own_insert one row ≡ true
+IsSoundLine End = Unit {0}
+IsSoundLine Route = Unit {0}
+IsSoundLine Push = Unit {0}
+IsSoundLine (Show node) = Unit {0}
+IsSoundLine Other = Unit {0}
+
+pub record IsSoundDraft (draft : Draft) : Type 0 where
+  pub named : is_name_text draft.writer ≡ true
+  pub rows : ArePairRows draft.rows
+
+abbrev pub IsSoundPlace : Place → Type 0
+IsSoundPlace place = IfSome place.draft IsSoundDraft
+
+abbrev pub IsSoundEvent : WorldEvent → Type 0
+IsSoundEvent (event.Node peer) = Unit {0}
+IsSoundEvent (event.Open at group external) = Unit {0}
+IsSoundEvent (event.Register asks at) = Unit {0}
+IsSoundEvent (event.Write node writer number rows) = (is_name_text writer ≡ true) × ArePairRows rows
+IsSoundEvent (event.Route node) = Unit {0}
+IsSoundEvent (event.Push sender receiver) = Unit {0}
+IsSoundEvent (event.Show node) = Unit {0}

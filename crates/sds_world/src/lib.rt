@@ -1,0 +1,23 @@
+//! Rehearsals: what a scenario's line says by itself, where it may stand, what it makes happen, and what that prints.
+#![tactic(auto)]
+
+mod fields;
+mod fixed;
+mod forms;
+mod line;
+mod lines;
+mod place;
+mod rehearsal;
+mod stage;
+mod text;
+mod words;
+
+pub use fixed::one;
+pub use forms::read_line;
+pub use line::{Line, Opening};
+pub use lines::split_line;
+pub use place::{Draft, Place, fits, take_line};
+pub use rehearsal::{WorldRefusal, rehearse};
+
+#[cfg(test)]
+mod tests;
