@@ -1,5 +1,5 @@
 -- Texts as bytes and as characters.
-use Rattle.std.proofs.Common.{◌≡◌, ◌↔◌, IsTrue, ℕ, Bool, true, false, List, [], ◌∷◌, length, ◌==◌, refl, sym, ap, ◌∙◌, rules, arith}
+use Rattle.std.proofs.Common.{◌≡◌, ◌↔◌, IsTrue, ℕ, Bool, List, [], ◌∷◌, length, ◌==◌, sym, ap, ◌∙◌, arith}
 use Rattle.std.specs.Str.{bytes_eq, chars, encode_utf8_all}
 use Rattle.std.proofs.lemmas.Bool.{eqb-true}
 use Rattle.std.proofs.lemmas.Bool.Decides.{same_from_decides}

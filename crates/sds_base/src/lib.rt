@@ -5,6 +5,8 @@ mod bytes;
 mod list;
 mod memory;
 mod same;
+#[cfg(test)]
+mod tests;
 mod twin;
 mod txt;
 

@@ -1,14 +1,12 @@
 -- Acks, and what is known of the batches after them.
-use Rattle.std.proofs.Common.{◌≡◌, ℕ, ◌+◌, Bool, true, false, cond, not, List, [], ◌∷◌, refl, ap, ◌∙◌, sym, arith}
-use Rattle.std.specs.Prelude.{if◌then◌else◌, count_by, map}
+use Rattle.std.proofs.Common.{◌≡◌, ℕ, ◌+◌, Bool, true, false, cond, not, List, [], ◌∷◌, refl, ap, ◌∙◌, arith}
+use Rattle.std.specs.Prelude.{if◌then◌else◌, map}
 use Rattle.std.proofs.lemmas.List.Recursion.{is_count_by}
 use Rattle.sds_spec.specs.declared.answer.Ack.{Ack}
 use Rattle.sds_spec.specs.declared.batch.OutBatch.{OutBatch}
 use Rattle.sds_spec.specs.declared.batch.Standing.{Standing}
 use Rattle.sds_spec.specs.Acks.{standing_after, same_standing, acknowledged, changed_by}
-use Rattle.sds_spec.specs.Acts.{State}
 use Rattle.sds_node.specs.Standings.{standings_of, differing, with_standings}
-use Rattle.sds_node.specs.Steps.{acked}
 
 one_more : (b : Bool) (n : ℕ) → (if b then n else n + 1) ≡ cond (not b) (1 + n) n
 one_more true n = refl

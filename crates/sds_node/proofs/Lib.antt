@@ -2,3 +2,11 @@ pub mod Histories
 pub mod Found
 pub mod Written
 pub mod Known
+pub mod Offers
+pub mod Docs
+pub mod Loads
+pub mod Updates
+pub mod Routes
+pub mod Runs
+pub mod Texts
+pub mod Places

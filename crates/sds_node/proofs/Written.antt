@@ -1,13 +1,11 @@
 -- An own write in the one configuration: its rows, their first broken one and their changes.
-use Rattle.std.proofs.Common.{◌≡◌, ℕ, ◌+◌, ◌≤◌, Result, Bool, true, false, ◌&&◌, ◌||◌, cond, List, [], ◌∷◌, ◌++◌, length, Option, None, Some, All, refl, sym, ap, ◌∙◌, append_assoc, append-nil, codes, suc, arith}
+use Rattle.std.proofs.Common.{◌≡◌, ℕ, ◌+◌, ◌≤◌, Result, Bool, true, false, ◌&&◌, ◌||◌, List, [], ◌∷◌, ◌++◌, length, None, refl, sym, ap, ◌∙◌, append_assoc, append-nil, codes, suc, arith}
 use Rattle.std.specs.Prelude.{if◌then◌else◌, nat_lt}
 use Rattle.std.proofs.lemmas.List.Elements.{All-head, All-tail}
 use Rattle.std.specs.Str.{bytes_eq}
 use Rattle.sds_value.specs.declared.kind.Value.{Value}
-use Rattle.sds_spec.specs.declared.row.Change.{Change}
 use Rattle.sds_spec.specs.declared.row.TableRow.{TableRow}
 use Rattle.sds_spec.specs.declared.row.TxRow.{TxRow}
-use Rattle.sds_spec.specs.declared.rule.Rule.{Rule}
 use Rattle.sds_spec.specs.declared.answer.WriteRefusal.{WriteRefusal}
 use Rattle.sds_spec.specs.declared.answer.Written.{Written}
 use Rattle.std.proofs.lemmas.Bool.Decides.{nat_tests}
@@ -18,10 +16,10 @@ use Rattle.sds_spec.specs.Kept.{writer_in}
 use Rattle.sds_node.specs.Meaning.{followed_by}
 use Rattle.sds_node.proofs.Histories.{wrote-state}
 use Rattle.sds_spec.specs.Calls.{write_changes, written_by, by_writer, write_answer}
-use Rattle.sds_spec.specs.Capture.{steps_of, after_all, first_broken, by_rule, is_insert, is_own_insert}
+use Rattle.sds_spec.specs.Capture.{steps_of, after_all, first_broken, is_insert, is_own_insert}
 use Rattle.sds_spec.specs.Changes.{changes_from}
 use Rattle.sds_spec.specs.One.{one}
-use Rattle.sds_spec.specs.Tables.{key_of, is_at, stands}
+use Rattle.sds_spec.specs.Tables.{is_at, stands}
 use Rattle.sds_node.specs.NewRows.{ArePairRows, new_row, new_rows, first_taken, numbered, captured, captured_at, count_at}
 use Rattle.sds_node.specs.Steps.{wrote, accepted}
 

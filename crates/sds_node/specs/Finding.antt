@@ -1,5 +1,5 @@
 -- What a place in one of a node's lists means for looking up and for putting in its place.
-use Rattle.std.specs.Prelude.{◌≡◌, ℕ, ◌<◌, List, [], ◌∷◌, ◌++◌, length, Option, None, slice_get, slice_set}
+use Rattle.std.specs.Prelude.{◌≡◌, ℕ, ◌<◌, List, [], ◌∷◌, ◌++◌, length, None, slice_get, slice_set}
 use Rattle.sds_spec.specs.declared.batch.LaneIn.{LaneIn}
 use Rattle.sds_spec.specs.declared.kept.WriterLast.{WriterLast}
 use Rattle.sds_spec.specs.Kept.{writer_in, with_writer, with_lane}

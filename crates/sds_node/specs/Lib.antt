@@ -1,7 +1,11 @@
+pub mod Documents
 pub mod Finding
 pub mod Loaded
 pub mod Meaning
 pub mod NewRows
 pub mod Numbers
+pub mod Offered
+pub mod Ordered
+pub mod Routed
 pub mod Standings
 pub mod Steps

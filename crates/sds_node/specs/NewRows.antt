@@ -1,5 +1,5 @@
 -- The rows that an own write adds, and the changes that they become, in the one configuration.
-use Rattle.std.specs.Prelude.{◌≡◌, ℕ, ◌+◌, Bool, true, false, if◌then◌else◌, List, [], ◌∷◌, ◌++◌, length, map, All, Option, None, Some, codes}
+use Rattle.std.specs.Prelude.{◌≡◌, ℕ, ◌+◌, Bool, true, if◌then◌else◌, List, [], ◌∷◌, ◌++◌, length, map, All, Option, None, Some, codes}
 use Rattle.std.specs.Str.{bytes_eq}
 use Rattle.sds_value.specs.declared.row.Event.TheVariants.{Insert}
 use Rattle.sds_spec.specs.declared.row.Change.{Change}
@@ -10,7 +10,7 @@ use Rattle.sds_spec.specs.declared.rule.Rule.TheVariants.{DuplicateKey}
 use Rattle.sds_spec.specs.Capture.{is_own_insert, row_values, by_rule}
 use Rattle.sds_spec.specs.Acts.{State}
 use Rattle.sds_spec.specs.One.{one}
-use Rattle.sds_spec.specs.Places.{columns_of, table_place}
+use Rattle.sds_spec.specs.Places.{columns_of}
 use Rattle.sds_spec.specs.Tables.{key_of, stands}
 
 -- each of these rows is an insert of the one table with a number and a text

@@ -1,5 +1,5 @@
 -- The standings of batches as a list of their own, in the order of the batches.
-use Rattle.std.specs.Prelude.{ℕ, ◌+◌, Bool, if◌then◌else◌, List, [], ◌∷◌}
+use Rattle.std.specs.Prelude.{ℕ, ◌+◌, if◌then◌else◌, List, [], ◌∷◌}
 use Rattle.sds_spec.specs.declared.answer.Ack.{Ack}
 use Rattle.sds_spec.specs.declared.batch.OutBatch.{OutBatch}
 use Rattle.sds_spec.specs.declared.batch.Standing.{Standing}

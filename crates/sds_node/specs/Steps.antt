@@ -1,9 +1,7 @@
 -- What an act makes of a state.
-use Rattle.std.specs.Prelude.{ℕ, ◌+◌, List, [], ◌∷◌, ◌++◌, length, Option, None, Some, false}
+use Rattle.std.specs.Prelude.{ℕ, ◌+◌, List, ◌++◌, length, None, Some, false}
 use Rattle.sds_spec.specs.declared.answer.Ack.{Ack}
-use Rattle.sds_spec.specs.declared.batch.LaneIn.{LaneIn}
-use Rattle.sds_spec.specs.declared.kept.Counts.{Counts}
-use Rattle.sds_spec.specs.declared.kept.WriterLast.{WriterLast}
+use Rattle.sds_spec.specs.declared.batch.OutBatch.{OutBatch}
 use Rattle.sds_spec.specs.declared.row.Change.{Change}
 use Rattle.sds_spec.specs.declared.row.LoadRow.{LoadRow}
 use Rattle.sds_spec.specs.declared.row.TableRow.{TableRow}
@@ -40,6 +38,24 @@ routed s = record s {
   counts = record s.counts { acts = s.counts.acts + 1; routed = s.counts.last_change; last_batch = s.counts.last_batch + length (route_pieces one s) };
   batches = s.batches ++ batches_from (s.counts.last_batch + 1) (route_pieces one s);
 }
+
+-- the same, by the batches that the run makes, and how many they are
+abbrev pub with_batches : State → ℕ → List OutBatch → State
+with_batches s count batches = record s {
+  counts = record s.counts { acts = s.counts.acts + 1; routed = s.counts.last_change; last_batch = s.counts.last_batch + count };
+  batches = s.batches ++ batches;
+}
+
+abbrev pub loaded : State → List ℕ → ℕ → ℕ → List LoadRow → State
+loaded s sender channel batch rows =
+    let dones = load_steps one s.tables rows in
+    let new = changes_from one s.me.group (Some sender) (s.counts.last_change + 1) (s.counts.last_tx + 1) dones in
+    record s {
+      counts = record s.counts { acts = s.counts.acts + 1; last_tx = s.counts.last_tx + 1; last_change = s.counts.last_change + length new };
+      tables = after_all one s.tables dones;
+      changes = s.changes ++ new;
+      lanes = with_lane (record { peer = sender; channel = channel; highest = batch; ignored = Some false; error = None }) s.lanes;
+    }
 
 abbrev pub acked : State → List Ack → State
 acked s acks = record s { counts = record s.counts { acts = s.counts.acts + 1 }; batches = acknowledged acks s.batches }

@@ -15,7 +15,9 @@ use std::alloc::Global;
 fn is_batch_to(batches: &[OutBatch], peer: &str, id: u64) -> bool
     ensures { result ≡ is_batch_to (chars peer.now) batches.now id }
 {
-    batches.iter().any(|batch| batch.id == id && batch.peer.is(peer))
+    batches
+        .iter()
+        .any(|batch| batch.id == id && batch.peer.is(peer))
 }
 
 /// The first number among these acks that is no batch to this peer.
@@ -34,9 +36,7 @@ pub(crate) fn unknown_batch(batches: &[OutBatch], peer: &str, acks: &[Ack]) -> O
 fn is_lane_of(batches: &[OutBatch], id: u64, batch: &OutBatch) -> bool
     ensures { result ≡ list_any (λ (b : OutBatch). b.id == id && (bytes_eq b.peer batch.now.peer && b.channel == batch.now.channel)) batches.now }
 {
-    batches
-        .iter()
-        .any(|b| b.id == id && b.peer == batch.peer && b.channel == batch.channel)
+    batches.iter().any(|b| b.id == id && b.peer == batch.peer && b.channel == batch.channel)
 }
 
 /// Whether a batch is of the lane of the batch with this number, and goes no later.
@@ -91,7 +91,11 @@ pub(crate) fn standing_after(batches: &[OutBatch], acks: &[Ack], batch: &OutBatc
 }
 
 /// What is known of each batch after these acks.
-pub(crate) fn standings_after(alloc: Global, batches: &[OutBatch], acks: &[Ack]) -> Result<Vec<Standing>, NoMemory>
+pub(crate) fn standings_after(
+    alloc: Global,
+    batches: &[OutBatch],
+    acks: &[Ack],
+) -> Result<Vec<Standing>, NoMemory>
     ensures items { IfOk result (λ standings. standings.items ≡ standings_of acks.now batches.now batches.now) }
     ensures len { IfOk result (λ standings. length standings.items ≡ length batches.now) }
 {
@@ -108,7 +112,8 @@ fn same_standing(a: Standing, b: Standing) -> bool
 {
     match (a, b) {
         (Standing::New, Standing::New) => true,
-        (Standing::Erred { row, rule }, Standing::Erred { row: r, rule: n }) => row == r && rule == n,
+        (Standing::Erred { row, rule }, Standing::Erred { row: r, rule: n }) => row == r
+            && rule == n,
         (Standing::Acked, Standing::Acked) => true,
         _ => false,
     }

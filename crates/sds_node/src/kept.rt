@@ -1,24 +1,29 @@
-ghost use Rattle.std.specs.Prelude.{◌≡◌, ◌≢◌, ◌==◌, if◌then◌else◌, Ok, Err, None, ◌≤◌, ℕ, List, ◌+◌, true, IfOk, OnOk, OnErr, length, [], ◌∷◌, vec_len, vec_capacity, MatchOption};
+ghost use Rattle.std.specs.Prelude.{◌≡◌, ◌≢◌, ◌==◌, if◌then◌else◌, Ok, Err, None, ◌≤◌, ℕ, List, ◌+◌, true, IfOk, OnOk, OnErr, length, [], ◌∷◌, vec_len, vec_capacity, MatchOption, nat_le};
 ghost use Rattle.std.specs.Str.{chars};
 ghost use Rattle.sds_spec.specs.Acts.Act.{Wrote};
 ghost use Rattle.sds_spec.specs.Calls.{may_add, may_count, written_by, write_acts, is_peer, acks_by};
+ghost use Rattle.sds_spec.specs.Kept.{highest_in};
 ghost use Rattle.sds_spec.specs.One.{paired};
 ghost use Rattle.sds_spec.specs.declared.row.TxRow.{TxRow};
 ghost use Rattle.sds_node.specs.NewRows.{first_taken, captured_at, count_at};
+ghost use Rattle.sds_node.specs.Loaded.{taken_in};
 ghost use Rattle.sds_node.specs.Numbers.{IsNextNumber, IsNumberAnswer};
 ghost use Rattle.sds_spec.specs.declared.answer.Ack.{Ack};
 ghost use Rattle.sds_node.specs.Standings.{standings_of};
-ghost use Rattle.sds_node.specs.Steps.{accepted, acked};
+ghost use Rattle.sds_node.specs.Routed.{is_waiting, next_ids, batches_by};
+ghost use Rattle.sds_node.specs.Steps.{accepted, routed, with_batches, acked};
+ghost use Rattle.std.specs.List.{list_any};
 ghost use Rattle.sds_spec.specs.Acks.{changed_by};
 
 use crate::acking::{count_changed, set_standings, standings_after};
-use crate::find::{is_corp, may_add, put_lane, put_writer};
+use crate::find::{highest_in, is_corp, may_add, put_lane, put_writer};
 use crate::loading::put_rows;
-use crate::routing::{CHANNEL, number_batches};
+use crate::routing::{CHANNEL, cut_changes, is_waiting, number_batches};
 use crate::writing::{first_taken, judge_number, number_rows};
 use sds_base::{List, NoMemory, Txt};
 use sds_spec::{
-    Ack, AckRefusal, Change, Counts, KeptPeer, LaneIn, NodeFault, OutBatch, Standing, TableRow, WriteRefusal, WriterLast, Written,
+    Ack, AckRefusal, Change, Counts, KeptPeer, LaneIn, NodeFault, OutBatch, Standing, TableRow,
+    WriteRefusal, WriterLast, Written,
 };
 use sds_value::Peer;
 use std::alloc::Global;
@@ -85,7 +90,11 @@ impl Kept {
     }
 
     /// What a write is answered by its number alone, or none where the number is the writer's next.
-    pub(crate) fn judge_number(&self, writer: &str, number: u64) -> Option<Result<Written, WriteRefusal>>
+    pub(crate) fn judge_number(
+        &self,
+        writer: &str,
+        number: u64,
+    ) -> Option<Result<Written, WriteRefusal>>
         ensures { MatchOption result (IsNextNumber self.now (chars writer.now) number) (IsNumberAnswer self.now (chars writer.now) number) }
     {
         judge_number(&self.writers, writer, number)
@@ -101,7 +110,11 @@ impl Kept {
         if let Some((row, rule)) = first_taken(&self.tables, rows) {
             return Err(WriteRefusal::Broken { row, rule });
         }
-        let count = if is_corp(&self.me.group) { rows.len() } else { 0 };
+        let count = if is_corp(&self.me.group) {
+            rows.len()
+        } else {
+            0
+        };
         if !self.may_count(count as u64) {
             return Err(WriteRefusal::Fault(NodeFault::Counters));
         }
@@ -128,14 +141,25 @@ impl Kept {
         ensures few { IfOk result (λ changes. vec_len changes ≤ 10000) }
     {
         if is_corp(&self.me.group) {
-            number_rows(alloc, self.counts.last_change + 1, self.counts.last_tx + 1, rows)
+            number_rows(
+                alloc,
+                self.counts.last_change + 1,
+                self.counts.last_tx + 1,
+                rows,
+            )
         } else {
             Ok(Vec::new(alloc))
         }
     }
 
     /// Adds the rows of a write, and its changes. Where memory is wanting, nothing changes.
-    pub(crate) fn accept(&mut self, alloc: Global, writer: &str, number: u64, mut rows: Vec<TableRow>) -> Result<(), NoMemory>
+    pub(crate) fn accept(
+        &mut self,
+        alloc: Global,
+        writer: &str,
+        number: u64,
+        mut rows: Vec<TableRow>,
+    ) -> Result<(), NoMemory>
         requires few { length rows.items ≤ 10000 }
         requires counters { may_count self.old (count_at self.old rows.items) ≡ true }
         ensures ok { OnOk result (self.new ≡ accepted self.old (chars writer.now) number rows.items (captured_at self.old rows.items)) }
@@ -167,8 +191,35 @@ impl Kept {
         self.other.peer.id.is(name)
     }
 
+    /// Whether a change waits for a routing run.
+    pub(crate) fn is_waiting(&self) -> bool
+        ensures { result ≡ list_any (is_waiting self.now.counts.routed) self.now.changes }
+    {
+        is_waiting(&self.changes, self.counts.routed)
+    }
+
+    /// The pieces that a routing run makes.
+    pub(crate) fn cut(&self, alloc: Global) -> Result<VecDeque<List<u64>>, NoMemory>
+        ensures { IfOk result (λ pieces. pieces.items ≡ next_ids self.now) }
+    {
+        let pieces = cut_changes(
+            alloc,
+            &self.me,
+            &self.other.peer,
+            &self.changes,
+            self.counts.routed,
+        )?;
+        Ok(pieces)
+    }
+
     /// Makes the batches of these pieces. Where memory is wanting or a number would pass its end, nothing changes.
-    pub(crate) fn add_batches(&mut self, alloc: Global, pieces: Vec<List<u64>>) -> Result<u64, NodeFault>
+    pub(crate) fn add_batches(
+        &mut self,
+        alloc: Global,
+        pieces: VecDeque<List<u64>>,
+    ) -> Result<u64, NodeFault>
+        ensures answer { result ≢ Err NodeFault.NoMemory → result ≡ batches_by self.old (length pieces.items) }
+        ensures ok { OnOk result (pieces.items ≡ next_ids self.old → self.new ≡ routed self.old) }
         ensures err { OnErr result (self.new ≡ self.old) }
     {
         let count = pieces.len() as u64;
@@ -176,19 +227,43 @@ impl Kept {
             return Err(NodeFault::Counters);
         }
         let first = self.counts.last_batch + 1;
-        let mut batches = number_batches(alloc, &self.other.peer.id, first, pieces)?;
-        if self.batches.append(&mut batches).is_err() {
-            return Err(NodeFault::NoMemory);
-        }
-        self.counts.acts += 1;
-        self.counts.last_batch += count;
-        self.counts.routed = self.counts.last_change;
+        let batches = number_batches(alloc, &self.other.peer.id, first, pieces)?;
+        self.put_batches(batches, count)?;
         Ok(count)
     }
 
+    /// Puts so many new batches behind the others. Where memory is wanting, nothing changes.
+    fn put_batches(&mut self, mut batches: Vec<OutBatch>, count: u64) -> Result<(), NoMemory>
+        requires acts { may_add self.old.counts.acts 1 ≡ true }
+        requires batches { may_add self.old.counts.last_batch count ≡ true }
+        ensures ok { OnOk result (self.new ≡ with_batches self.old count batches.items) }
+        ensures err { OnErr result (self.new ≡ self.old) }
+    {
+        self.batches.reserve(batches.len())?;
+        self.batches.append(&mut batches).unwrap();
+        self.counts.acts += 1;
+        self.counts.last_batch += count;
+        self.counts.routed = self.counts.last_change;
+        Ok(())
+    }
+
+    /// Whether a batch from a peer was loaded before: its number isn't above the lane's highest.
+    pub(crate) fn has_loaded(&self, from: &str, channel: u32, batch: u64) -> bool
+        ensures { result ≡ nat_le batch (highest_in (chars from.now) channel self.now.lanes) }
+    {
+        batch <= highest_in(&self.lanes, from, channel)
+    }
+
     /// Takes the rows of a batch, where an act may be made. Where memory is wanting, nothing changes.
-    pub(crate) fn load_rows(&mut self, alloc: Global, from: &str, batch: u64, rows: VecDeque<TableRow>) -> Result<(), NoMemory>
+    pub(crate) fn load_rows(
+        &mut self,
+        alloc: Global,
+        from: &str,
+        batch: u64,
+        rows: VecDeque<TableRow>,
+    ) -> Result<(), NoMemory>
         requires { may_count self.old 0 ≡ true }
+        ensures ok { OnOk result (self.new ≡ taken_in self.old (chars from.now) batch rows.items) }
         ensures err { OnErr result (self.new ≡ self.old) }
     {
         let lane = LaneIn {
@@ -202,7 +277,7 @@ impl Kept {
         self.lanes.reserve(1)?;
         self.counts.acts += 1;
         self.counts.last_tx += 1;
-        put_rows(&mut self.tables, rows);
+        put_rows(alloc, &mut self.tables, rows);
         put_lane(&mut self.lanes, lane);
         Ok(())
     }

@@ -1,19 +1,24 @@
-ghost use Rattle.std.specs.Prelude.{◌≡◌, ◌≢◌, ◌==◌, ◌≤◌, ◌^◌, ℕ, All, IfOk, OnErr, Ok, Err, [], true, false};
+ghost use Rattle.std.specs.Prelude.{◌≡◌, ◌≢◌, ◌==◌, ◌≤◌, ◌^◌, ◌++◌, ℕ, All, IfOk, OnOk, OnErr, Ok, Err, Some, [], true, false};
 ghost use Rattle.std.specs.Str.{chars};
 ghost use Rattle.sds_value.specs.Names.{is_name_text};
 ghost use Rattle.sds_spec.specs.Acts.{History};
-ghost use Rattle.sds_spec.specs.Calls.{write_answer, write_acts, is_peer, acks_answer, acks_acts};
+ghost use Rattle.sds_spec.specs.Calls.{write_answer, write_acts, is_peer, route_answer, route_acts, load_answer_of, load_acts, offer_answer, acks_answer, acks_acts};
 ghost use Rattle.sds_spec.specs.Kept.{writer_in};
+ghost use Rattle.sds_spec.specs.Lanes.{rows_of};
+ghost use Rattle.sds_spec.specs.Outcome.{is_whole_insert};
+ghost use Rattle.sds_spec.specs.Shown.{tables_text};
 ghost use Rattle.sds_spec.specs.Settled.{kept_number, all_ok};
+ghost use Rattle.sds_spec.specs.declared.batch.OutBatch.{OutBatch};
+ghost use Rattle.sds_value.specs.declared.row.DocRow.{DocRow};
+ghost use Rattle.sds_node.specs.Offered.{batch_at};
 ghost use Rattle.sds_spec.specs.One.{one, paired};
 ghost use Rattle.sds_node.specs.NewRows.{ArePairRows};
 
 use crate::acking::unknown_batch;
-use crate::find::{highest_in, writer_place};
+use crate::find::writer_place;
 use crate::kept::Kept;
 use crate::loading::read_doc_rows;
-use crate::offering::{make_docs, offered};
-use crate::routing::{cut_changes, is_waiting};
+use crate::offering::{batch_at, make_docs, offered};
 use crate::shown::put_table;
 use crate::writing::read_own_rows;
 use sds_base::{List, NoMemory};
@@ -48,7 +53,12 @@ impl Node {
     ///
     /// Refusals, in this order: more than 10,000 rows; a number that is 0 or below the last; one above the next; the
     /// first row whose key stands already, in the table or before it; a number that would pass 2^62.
-    pub fn write(&mut self, writer: &str, number: u64, tx: &[TxRow]) -> Result<Written, WriteRefusal>
+    pub fn write(
+        &mut self,
+        writer: &str,
+        number: u64,
+        tx: &[TxRow],
+    ) -> Result<Written, WriteRefusal>
         requires name { is_name_text (chars writer.now) ≡ true }
         requires rows { ArePairRows tx.now }
         ensures answer { result ≢ Err (WriteRefusal.Fault NodeFault.NoMemory) → result ≡ write_answer one (kept_of self.old) (chars writer.now) number tx.now }
@@ -74,15 +84,20 @@ impl Node {
     /// Cuts the changes since the last routing run into batches to the peer, and tells how many it made. Without such
     /// changes it answers 0, and nothing is done. Refused where a number would pass 2^62.
     pub fn route(&mut self) -> Result<u64, NodeFault>
+        ensures answer { result ≢ Err NodeFault.NoMemory → result ≡ route_answer one (kept_of self.old) }
+        // The node then stands for what it stood for, and the act of the call.
+        ensures stands { (h : History) → StandsFor self.old h → StandsFor self.new (followed_by h (route_acts result (kept_of self.old))) }
         ensures refused { OnErr result (kept_of self.new ≡ kept_of self.old) }
     {
-        let kept = &self.kept;
-        let routed = kept.counts.routed;
-        if !is_waiting(&kept.changes, routed) {
+        if !self.kept.is_waiting() {
             return Ok(0);
         }
-        let pieces = cut_changes(self.alloc, &kept.me, &kept.other.peer, &kept.changes, routed)?;
-        self.kept.add_batches(self.alloc, pieces)
+        let pieces = self.kept.cut(self.alloc)?;
+        let made = match self.kept.add_batches(self.alloc, pieces) {
+            Ok(made) => made,
+            Err(fault) => return Err(fault),
+        };
+        Ok(made)
     }
 
     /// The numbers of the batches that the next message to a peer takes, from the channels named, or from all where
@@ -90,6 +105,7 @@ impl Node {
     pub fn offer(&self, to: &str, channels: &[u32]) -> Result<List<u64>, PeerRefusal>
         requires { All (λ (channel : ℕ). channel ≡ 0) channels.now }
         ensures peer { is_peer (chars to.now) (kept_of self.now) ≡ false → result ≡ Err PeerRefusal.UnknownNode }
+        ensures answer { result ≢ Err (PeerRefusal.Fault NodeFault.NoMemory) → result ≡ offer_answer one (kept_of self.now) (chars to.now) channels.now }
     {
         if !self.kept.is_peer(to) {
             return Err(PeerRefusal::UnknownNode);
@@ -99,27 +115,37 @@ impl Node {
 
     /// The rows of one of the node's batches, as a document carries them; none for a number that is no batch's.
     pub fn rows(&self, batch: u64) -> Result<List<DocRow>, NoMemory>
+        ensures { IfOk result (λ docs. (b : OutBatch) → batch_at batch (kept_of self.now).batches ≡ Some b → docs ≡ rows_of one (kept_of self.now) b) }
     {
-        for kept in &self.kept.batches {
-            if kept.id == batch {
-                return make_docs(self.alloc, &self.kept.changes, kept.changes.inner());
-            }
+        match batch_at(&self.kept.batches, batch) {
+            Some(kept) => make_docs(self.alloc, &self.kept.changes, kept.changes.inner()),
+            None => Ok(List::new(self.alloc)),
         }
-        Ok(List::new(self.alloc))
     }
 
     /// Loads a batch from a peer: inserts its rows, or where a row of the key stands updates it. A batch whose number
     /// isn't above the highest loaded from that peer was loaded before, and nothing is done.
     ///
     /// Refusals, in this order: no such peer; a number that would pass 2^62.
-    pub fn load(&mut self, from: &str, channel: u32, batch: u64, rows: &[DocRow]) -> Result<LoadAnswer, PeerRefusal>
+    pub fn load(
+        &mut self,
+        from: &str,
+        channel: u32,
+        batch: u64,
+        rows: &[DocRow],
+    ) -> Result<LoadAnswer, PeerRefusal>
+        requires { channel ≡ 0 }
+        ensures answer { result ≢ Err (PeerRefusal.Fault NodeFault.NoMemory) → result ≡ load_answer_of one (kept_of self.old) (chars from.now) channel batch rows.now }
+        // The node then stands for what it stood for, and the act of the call, where each row is a whole insert.
+        ensures stands { (h : History) → All (λ (doc : DocRow). is_whole_insert one doc ≡ true) rows.now → StandsFor self.old h
+            → StandsFor self.new (followed_by h (load_acts result one (chars from.now) channel batch rows.now)) }
         ensures refused { OnErr result (kept_of self.new ≡ kept_of self.old) }
         ensures again { result ≡ Ok LoadAnswer.Again → kept_of self.new ≡ kept_of self.old }
     {
         if !self.kept.is_peer(from) {
             return Err(PeerRefusal::UnknownNode);
         }
-        if batch <= highest_in(&self.kept.lanes, from, channel) {
+        if self.kept.has_loaded(from, channel, batch) {
             return Ok(LoadAnswer::Again);
         }
         if !self.kept.may_count(0) {
@@ -153,6 +179,7 @@ impl Node {
     /// Writes the text of the tables behind `out`: for each table its name, and a line for each row in the order of the
     /// keys. Where memory is wanting, `out` stays as it was.
     pub fn put_tables(&self, out: &mut Vec<u8>) -> Result<(), NoMemory>
+        ensures ok { OnOk result (out.new.items ≡ out.old.items ++ tables_text one (kept_of self.now).tables) }
         ensures err { OnErr result (out.new.items ≡ out.old.items) }
     {
         let mut text = Vec::new(self.alloc);

@@ -5,6 +5,7 @@ ghost use Rattle.sds_spec.specs.Capture.{field_value, row_values};
 ghost use Rattle.sds_spec.specs.One.{one};
 ghost use Rattle.sds_spec.specs.Places.{columns_of};
 ghost use Rattle.sds_spec.specs.Tables.{same_value, value_at, key_of, is_at, stands};
+ghost use Rattle.sds_node.specs.Loaded.{IsNoRow, IsRowAt};
 
 use crate::find::same_value;
 use sds_base::{List, NoMemory};
@@ -88,7 +89,7 @@ pub(crate) fn is_in(rows: &[TableRow], row: &Row) -> bool
 
 /// The place of the row of that key.
 fn key_place(rows: &[TableRow], key: &Value) -> Option<usize>
-    ensures { MatchOption result (stands one 0 (key.now ∷ []) rows.now ≡ false) (λ place. place < length rows.now) }
+    ensures { MatchOption result (IsNoRow (key.now ∷ []) rows.now) (IsRowAt (key.now ∷ []) rows.now) }
 {
     for (place, kept) in rows.iter().enumerate() {
         if is_row(kept, key) {
@@ -100,7 +101,7 @@ fn key_place(rows: &[TableRow], key: &Value) -> Option<usize>
 
 /// The place of the row with the key of a row.
 pub(crate) fn row_place(rows: &[TableRow], row: &Row) -> Option<usize>
-    ensures { MatchOption result (stands one 0 (key_of one 0 row.now) rows.now ≡ false) (λ place. place < length rows.now) }
+    ensures { MatchOption result (IsNoRow (key_of one 0 row.now) rows.now) (IsRowAt (key_of one 0 row.now) rows.now) }
 {
     match row.0.inner().first() {
         Some(key) => key_place(rows, key),

@@ -18,7 +18,11 @@ use sds_value::Event;
 use std::alloc::Global;
 
 /// What a write is answered by its number alone, or none where the number is the writer's next.
-pub(crate) fn judge_number(lasts: &[WriterLast], writer: &str, number: u64) -> Option<Result<Written, WriteRefusal>>
+pub(crate) fn judge_number(
+    lasts: &[WriterLast],
+    writer: &str,
+    number: u64,
+) -> Option<Result<Written, WriteRefusal>>
     ensures { MatchOption result
         ((next : Result Written WriteRefusal) → by_writer (writer_in (chars writer.now) lasts.now) number next ≡ next)
         (λ answer. ((next : Result Written WriteRefusal) → by_writer (writer_in (chars writer.now) lasts.now) number next ≡ answer)
@@ -81,7 +85,12 @@ fn is_taken(tables: &[TableRow], before: &[TableRow], row: &TableRow) -> bool
 }
 
 /// The changes of these rows.
-pub(crate) fn number_rows(alloc: Global, first: u64, tx: u64, rows: &[TableRow]) -> Result<Vec<Change>, NoMemory>
+pub(crate) fn number_rows(
+    alloc: Global,
+    first: u64,
+    tx: u64,
+    rows: &[TableRow],
+) -> Result<Vec<Change>, NoMemory>
     requires { first + length rows.now < 2 ^ 63 }
     ensures items { IfOk result (λ changes. changes.items ≡ numbered first tx rows.now) }
     ensures len { IfOk result (λ changes. vec_len changes ≡ length rows.now) }

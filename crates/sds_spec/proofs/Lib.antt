@@ -1,1 +1,4 @@
 pub mod TwoNodesComputed
+pub mod WorkedComputed
+pub mod CutLaw
+pub mod CutOnly

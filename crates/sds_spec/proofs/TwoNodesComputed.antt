@@ -1,24 +1,18 @@
 -- The definitions, computed event by event on the scenario of two nodes.
-use Rattle.std.proofs.Common.{◌≡◌, ℕ, List, [], ◌∷◌, ◌++◌, map, drop, None, pos, refl, codes}
+use Rattle.std.proofs.Common.{◌≡◌, ℕ, List, [], ◌∷◌, ◌++◌, map, drop, refl, codes}
 use Rattle.std.specs.Fmt.{digits}
 use Rattle.std.specs.Str.{chars}
 use lib.Utf8.{encode}
-use Rattle.sds_value.specs.declared.kind.Value.TheVariants as value
-use Rattle.sds_value.specs.declared.row.DocRow.{DocRow}
-use Rattle.sds_value.specs.declared.row.Event.TheVariants.{Insert}
-use Rattle.sds_value.specs.declared.row.Field.TheVariants.{Text}
 use Rattle.sds_value.specs.declared.row.Peer.{Peer}
-use Rattle.sds_spec.specs.declared.answer.Ack.{Ack}
 use Rattle.sds_spec.specs.declared.event.WorldEvent.{WorldEvent}
 use Rattle.sds_spec.specs.declared.event.WorldEvent.TheVariants.{Node, Open, Register, Write, Route, Push, Show}
-use Rattle.sds_spec.specs.declared.row.LoadRow.{LoadRow}
-use Rattle.sds_spec.specs.Acts.{Act, History}
-use Rattle.sds_spec.specs.Acts.Act.{Wrote, Routed, Loaded, Acked}
+use Rattle.sds_spec.specs.Acts.{Act}
+use Rattle.sds_spec.specs.Acts.Act.{Routed}
 use Rattle.sds_spec.specs.Happens.{happens}
 use Rattle.sds_spec.specs.One.{one, begun, paired}
 use Rattle.sds_spec.specs.Screen.{screen_of, printed_by}
-use Rattle.sds_spec.specs.TwoNodes.{corp, store, first_rows, second_rows, two_nodes, two_nodes_screen}
-use Rattle.sds_spec.specs.World.{Sent, Part, Message, Reply, World, empty_world}
+use Rattle.sds_spec.specs.TwoNodes.{corp, store, first_rows, second_rows, two_nodes, two_nodes_screen, wrote, taken, heard, message, reply}
+use Rattle.sds_spec.specs.World.{Message, Reply, World, empty_world}
 
 -- one event, and then the others
 then : (w w' : World) (event : WorldEvent) (events : List WorldEvent) (text rest : List ℕ) → printed_by one w event ≡ text → happens one w event ≡ w'
@@ -32,30 +26,6 @@ world at_corp at_store messages replies = record {
   messages = messages;
   replies = replies;
 }
-
-abbrev doc : List ℕ → List ℕ → DocRow
-doc id text = record { event = Insert; table = codes "pair"; keys = codes "id" ∷ []; columns = codes "id" ∷ (codes "text" ∷ []);
-  new = Text id ∷ (Text text ∷ []); key = []; old = None }
-
-abbrev load : ℕ → ℕ → List ℕ → LoadRow
-load n id text = record { row = n; table = 0; event = Insert; key = record { 0 = value.Integer (pos id) ∷ [] }; columns = 0 ∷ (1 ∷ []);
-  new = value.Integer (pos id) ∷ (value.Text text ∷ []); old = None }
-
-abbrev first_message : Message
-first_message = record { sender = codes "corp"; receiver = codes "s1";
-  parts = record { channel = 0; start = 0; batches = record { id = 1; rows = doc (codes "2") (codes "Ink") ∷ (doc (codes "1") (codes "Pen") ∷ []) } ∷ [] } ∷ [] }
-
-abbrev first_reply : Reply
-first_reply = record { receiver = codes "s1"; sender = codes "corp"; acks = record { batch = 1; error = None } ∷ [] }
-
-abbrev wrote : Act
-wrote = Wrote (codes "office") 1 first_rows
-
-abbrev taken : Act
-taken = Loaded (codes "corp") 0 1 (load 1 2 (codes "Ink") ∷ (load 2 1 (codes "Pen") ∷ []))
-
-abbrev heard : Act
-heard = Acked (codes "s1") (record { batch = 1; error = None } ∷ [])
 
 -- the nodes before they are each other's peers
 abbrev apart : List Peer → World
@@ -94,26 +64,26 @@ unfolding encode digits chars
 push_prints = refl
 
 push_leads : happens one (world (Routed ∷ (wrote ∷ [])) [] [] []) (Push (codes "corp") (codes "s1"))
-    ≡ world (heard ∷ (Routed ∷ (wrote ∷ []))) (taken ∷ []) (first_message ∷ []) (first_reply ∷ [])
+    ≡ world (heard ∷ (Routed ∷ (wrote ∷ []))) (taken ∷ []) (message ∷ []) (reply ∷ [])
 unfolding encode digits chars
 push_leads = refl
 
-show_prints : printed_by one (world (heard ∷ (Routed ∷ (wrote ∷ []))) (taken ∷ []) (first_message ∷ []) (first_reply ∷ [])) (Show (codes "s1"))
+show_prints : printed_by one (world (heard ∷ (Routed ∷ (wrote ∷ []))) (taken ∷ []) (message ∷ []) (reply ∷ [])) (Show (codes "s1"))
     ≡ codes "table pair\n\"1\",\"Pen\"\n\"2\",\"Ink\"\n"
 unfolding encode digits chars
 show_prints = refl
 
-again_prints : printed_by one (world (heard ∷ (Routed ∷ (wrote ∷ []))) (taken ∷ []) (first_message ∷ []) (first_reply ∷ [])) (Write (codes "corp") (codes "office") 2 second_rows)
+again_prints : printed_by one (world (heard ∷ (Routed ∷ (wrote ∷ []))) (taken ∷ []) (message ∷ []) (reply ∷ [])) (Write (codes "corp") (codes "office") 2 second_rows)
     ≡ codes "write corp office 2: refused 1 7\n"
 unfolding encode digits chars
 again_prints = refl
 
-again_leads : happens one (world (heard ∷ (Routed ∷ (wrote ∷ []))) (taken ∷ []) (first_message ∷ []) (first_reply ∷ [])) (Write (codes "corp") (codes "office") 2 second_rows)
-    ≡ world (heard ∷ (Routed ∷ (wrote ∷ []))) (taken ∷ []) (first_message ∷ []) (first_reply ∷ [])
+again_leads : happens one (world (heard ∷ (Routed ∷ (wrote ∷ []))) (taken ∷ []) (message ∷ []) (reply ∷ [])) (Write (codes "corp") (codes "office") 2 second_rows)
+    ≡ world (heard ∷ (Routed ∷ (wrote ∷ []))) (taken ∷ []) (message ∷ []) (reply ∷ [])
 unfolding encode digits chars
 again_leads = refl
 
-last_prints : printed_by one (world (heard ∷ (Routed ∷ (wrote ∷ []))) (taken ∷ []) (first_message ∷ []) (first_reply ∷ [])) (Push (codes "corp") (codes "s1"))
+last_prints : printed_by one (world (heard ∷ (Routed ∷ (wrote ∷ []))) (taken ∷ []) (message ∷ []) (reply ∷ [])) (Push (codes "corp") (codes "s1"))
     ≡ codes "send 2 corp s1: 0 batches\n"
 unfolding encode digits chars
 last_prints = refl
@@ -129,7 +99,7 @@ abbrev after_route : World
 after_route = world (Routed ∷ (wrote ∷ [])) [] [] []
 
 abbrev after_push : World
-after_push = world (heard ∷ (Routed ∷ (wrote ∷ []))) (taken ∷ []) (first_message ∷ []) (first_reply ∷ [])
+after_push = world (heard ∷ (Routed ∷ (wrote ∷ []))) (taken ∷ []) (message ∷ []) (reply ∷ [])
 
 from_push : screen_of one after_push (drop 7 two_nodes)
     ≡ codes "table pair\n\"1\",\"Pen\"\n\"2\",\"Ink\"\n" ++ (codes "write corp office 2: refused 1 7\n" ++ codes "send 2 corp s1: 0 batches\n")

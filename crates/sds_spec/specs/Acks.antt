@@ -1,5 +1,5 @@
 -- What acks say of a node's batches.
-use Rattle.std.specs.Prelude.{ℕ, Bool, true, false, ◌&&◌, ◌||◌, ◌==◌, not, nat_le, is_none, if◌then◌else◌, List, [], ◌∷◌, map, Option, None, Some, count_by}
+use Rattle.std.specs.Prelude.{ℕ, Bool, true, false, ◌&&◌, ◌==◌, not, nat_le, is_none, if◌then◌else◌, List, [], ◌∷◌, map, Option, None, Some, count_by}
 use Rattle.std.specs.List.{list_any}
 use Rattle.std.specs.Str.{bytes_eq}
 use Rattle.sds_spec.specs.declared.answer.Ack.{Ack}

@@ -19,7 +19,7 @@ pub data Act : Type 0 where
   Loaded : (from : List ℕ) → (channel : ℕ) → (batch : ℕ) → (rows : List LoadRow) → Act
   Acked : (from : List ℕ) → (acks : List Ack) → Act
 
--- what a node has
+-- what a node has; its peers stand in the order of their ids, its changes and batches in that of their numbers
 pub record State : Type 0 where
   pub me : Peer
   pub counts : Counts

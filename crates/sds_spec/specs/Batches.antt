@@ -1,5 +1,5 @@
 -- The batches that a routing run makes.
-use Rattle.std.specs.Prelude.{ℕ, ◌+◌, Bool, true, false, ◌&&◌, ◌||◌, ◌==◌, nat_lt, if◌then◌else◌, List, [], ◌∷◌, ◌++◌, map, filter, unwrap_or, slice_get}
+use Rattle.std.specs.Prelude.{ℕ, ◌+◌, Bool, true, false, ◌&&◌, ◌||◌, ◌==◌, nat_lt, if◌then◌else◌, List, [], ◌∷◌, map, filter, slice_get}
 use Rattle.std.specs.List.{flat_map}
 use Rattle.std.specs.Option.{option_map_or}
 use Rattle.std.specs.Ordering.{nat_cmp}
@@ -24,7 +24,7 @@ is_less Greater = false
 
 -- lower processing orders go first, and channels of one order go by id
 abbrev pub goes_before : ChannelDef → ChannelDef → Bool
-goes_before a b = nat_lt a.processing_order b.processing_order || a.processing_order == b.processing_order && is_less (slice_cmp nat_cmp a.id b.id)
+goes_before a b = nat_lt a.processing_order b.processing_order || (a.processing_order == b.processing_order && is_less (slice_cmp nat_cmp a.id b.id))
 
 -- a channel with its place, before the first that it goes before
 abbrev pub placed : ℕ → ChannelDef → List (ℕ × ChannelDef) → List (ℕ × ChannelDef)
@@ -53,12 +53,13 @@ pub record Piece : Type 0 where
 abbrev pub lane_changes : Config → Peer → List TableRow → List Change → ℕ → Peer → List Change
 lane_changes config me rows changes channel peer = filter (λ (c : Change). c.channel == channel && is_named config me rows c peer) changes
 
+-- cut by the default algorithm, whichever the channel has: the others come later
 abbrev pub lane_pieces : Config → Peer → List TableRow → List Change → ℕ → KeptPeer → List Piece
 lane_pieces config me rows changes channel kept =
     map (λ (piece : List Change). record { peer = kept.peer.id; channel = channel; changes = piece })
     (cut (full_size config channel) (lane_changes config me rows changes channel kept.peer))
 
--- the pieces of these changes: channel by channel in their order, and in each peer by peer
+-- the pieces of these changes: channel by channel in their order, and in each peer by peer as they stand, which is by id
 abbrev pub pieces_of : Config → Peer → List KeptPeer → List TableRow → List Change → List Piece
 pieces_of config me peers rows changes =
     flat_map (λ (channel : ℕ). flat_map (lane_pieces config me rows changes channel) peers) (channel_order config)

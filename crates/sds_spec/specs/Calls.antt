@@ -1,7 +1,7 @@
 -- What a node answers to a call where memory isn't wanting, and the acts that the call makes.
 -- Each answer goes by the node's state alone; its refusals come in the order in which they stand here.
-use Rattle.std.specs.Prelude.{ℕ, ◌+◌, ◌^◌, Bool, true, false, ◌&&◌, ◌||◌, ◌==◌, not, nat_lt, nat_le, if◌then◌else◌, List, [], ◌∷◌, length, filter, Option, None, Some, Result, Ok, Err}
-use Rattle.std.specs.List.{list_any}
+use Rattle.std.specs.Prelude.{ℕ, ◌+◌, ◌^◌, Bool, ◌&&◌, ◌||◌, ◌==◌, not, nat_lt, nat_le, if◌then◌else◌, List, [], ◌∷◌, length, map, filter, Option, None, Some, Result, Ok, Err}
+use Rattle.std.specs.List.{list_any, flat_map}
 use Rattle.std.specs.Str.{bytes_eq}
 use Rattle.sds_config.specs.declared.config.Config.{Config}
 use Rattle.sds_value.specs.declared.row.DocRow.{DocRow}
@@ -31,13 +31,14 @@ use Rattle.sds_spec.specs.Batches.{Piece, pieces_of}
 use Rattle.sds_spec.specs.Capture.{steps_of, first_broken}
 use Rattle.sds_spec.specs.Changes.{changes_from}
 use Rattle.sds_spec.specs.Kept.{writer_in, highest_in}
+use Rattle.sds_spec.specs.Lanes.{offered_in, channels_of}
 use Rattle.sds_spec.specs.Outcome.{load_steps, read_rows}
 
 -- whether a counter may go on by so many
 abbrev pub may_add : ℕ → ℕ → Bool
 may_add counter more = nat_le (counter + more) (2 ^ 62)
 
--- whether an act may be made that takes so many change numbers in a transaction of its own
+-- whether an act may be made that is a transaction of its own with so many changes
 abbrev pub may_count : State → ℕ → Bool
 may_count s changes = may_add s.counts.acts 1 && (may_add s.counts.last_tx 1 && may_add s.counts.last_change changes)
 
@@ -95,7 +96,8 @@ abbrev pub route_acts : Result ℕ NodeFault → State → List Act
 route_acts (Err fault) s = []
 route_acts (Ok batches) s = if nat_lt 0 (length (unrouted s)) then Routed ∷ [] else []
 
--- LOAD. By the lane's highest batch, then by the counters.
+-- LOAD. By the peer, then by the lane's highest batch, then by the counters. A call asks that the channel is one of the configuration
+-- and that each row is a whole insert, so no row breaks a rule; refusals for their sake, and batches held behind one in error, come later.
 abbrev pub load_answer_of : Config → State → List ℕ → ℕ → ℕ → List DocRow → Result LoadAnswer PeerRefusal
 load_answer_of config s from channel batch rows =
     if not (is_peer from s) then Err peer_refusal.UnknownNode else
@@ -129,3 +131,9 @@ acks_answer s from acks =
 abbrev pub acks_acts : Result ℕ AckRefusal → List ℕ → List Ack → List Act
 acks_acts (Err refusal) from acks = []
 acks_acts (Ok changed) from acks = if changed == 0 then [] else Acked from acks ∷ []
+
+-- OFFER. By the peer; then the numbers of the batches that the next message to it takes, from the channels named or from all. It makes no act.
+abbrev pub offer_answer : Config → State → List ℕ → List ℕ → Result (List ℕ) PeerRefusal
+offer_answer config s to channels =
+    if not (is_peer to s) then Err peer_refusal.UnknownNode else
+    Ok (flat_map (λ (channel : ℕ). map (λ (b : OutBatch). b.id) (offered_in config s to channel)) (channels_of config channels))

@@ -1,10 +1,8 @@
--- Own writes, and which of their steps are captured as changes.
-use Rattle.std.specs.Prelude.{ℕ, ◌+◌, Bool, true, false, ◌&&◌, ◌||◌, ◌==◌, not, nat_lt, if◌then◌else◌, List, [], ◌∷◌, length, Option, None, Some}
-use Rattle.std.specs.List.{list_any}
-use Rattle.std.specs.Option.{option_map_or}
+-- Own writes: what their rows do to the tables, and the first row that breaks a rule. Inserts are built.
+-- The rules on a row by itself are told by `is_own_insert`: a call asks that it holds, and refusals for its sake come later.
+use Rattle.std.specs.Prelude.{ℕ, ◌+◌, Bool, true, false, ◌&&◌, not, nat_lt, List, [], ◌∷◌, length, Option, None, Some}
 use Rattle.std.specs.Result.{result_unwrap_or}
-use Rattle.std.specs.Prelude.{is_ok, slice_get}
-use Rattle.std.specs.Str.{bytes_eq}
+use Rattle.std.specs.Prelude.{is_ok}
 use Rattle.sds_value.specs.declared.kind.Kind.{Kind}
 use Rattle.sds_value.specs.declared.kind.Binary.TheVariants.{Base64}
 use Rattle.sds_value.specs.declared.kind.Value.{Value}
@@ -16,18 +14,13 @@ use Rattle.sds_value.specs.declared.row.Field.TheVariants.{Null, Text}
 use Rattle.sds_value.specs.declared.table.ColumnDef.{ColumnDef}
 use Rattle.sds_value.specs.Values.{value_of}
 use Rattle.sds_config.specs.declared.config.Config.{Config}
-use Rattle.sds_config.specs.declared.route.RouterDef.{RouterDef}
-use Rattle.sds_config.specs.declared.route.TriggerDef.{TriggerDef}
-use Rattle.sds_config.specs.declared.route.TriggerRouterDef.{TriggerRouterDef}
-use Rattle.sds_spec.specs.declared.row.Change.{Change}
 use Rattle.sds_spec.specs.declared.row.Done.{Done}
-use Rattle.sds_spec.specs.declared.row.Row.{Row}
 use Rattle.sds_spec.specs.declared.row.RowStep.{RowStep}
-use Rattle.sds_spec.specs.declared.row.RowStep.TheVariants.{Insert, Update, Delete}
+use Rattle.sds_spec.specs.declared.row.RowStep.TheVariants.{Insert}
 use Rattle.sds_spec.specs.declared.row.TableRow.{TableRow}
 use Rattle.sds_spec.specs.declared.row.TxRow.{TxRow}
 use Rattle.sds_spec.specs.declared.rule.Rule.{Rule}
-use Rattle.sds_spec.specs.Places.{group_name, columns_of, table_place}
+use Rattle.sds_spec.specs.Places.{columns_of, table_place}
 use Rattle.sds_spec.specs.Tables.{broken, after}
 
 -- the value of a field under the kind of its column
@@ -57,7 +50,7 @@ is_insert event.Insert = true
 is_insert event.Update = false
 is_insert event.Delete = false
 
--- whether an own row is an insert that a table may have, its key apart
+-- whether an own row is an insert of a known table, with a value that it may have for each column; its key may stand already
 abbrev pub is_own_insert : Config → TxRow → Bool
 is_own_insert config row =
     is_insert row.event && (nat_lt (table_place row.table config.tables) (length config.tables)

@@ -1,5 +1,5 @@
 -- Which steps are captured, and the changes that they become.
-use Rattle.std.specs.Prelude.{ℕ, ◌+◌, Bool, true, false, ◌&&◌, ◌||◌, ◌==◌, not, if◌then◌else◌, List, [], ◌∷◌, Option, None, Some, slice_get}
+use Rattle.std.specs.Prelude.{ℕ, ◌+◌, Bool, true, false, ◌&&◌, ◌||◌, ◌==◌, if◌then◌else◌, List, [], ◌∷◌, Option, None, Some, slice_get}
 use Rattle.std.specs.List.{list_any}
 use Rattle.std.specs.Option.{option_map_or}
 use Rattle.std.specs.Str.{bytes_eq}
@@ -52,7 +52,7 @@ abbrev pub channel_by : Config → List ℕ → Bool → RowStep → ℕ → Lis
 channel_by config group is_own step n [] = None
 channel_by config group is_own step n (trigger ∷ triggers) =
     if trigger.source_table == table_of step then
-        (if syncs trigger (event_of step) && ((is_own || trigger.sync_on_incoming_batch) && is_joined config group n) then Some trigger.channel else None)
+    (if syncs trigger (event_of step) && ((is_own || trigger.sync_on_incoming_batch) && is_joined config group n) then Some trigger.channel else None)
     else channel_by config group is_own step (n + 1) triggers
 
 -- the channel of a step at a node of a group, or none where the step isn't captured

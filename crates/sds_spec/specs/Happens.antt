@@ -1,14 +1,12 @@
 -- What each event makes of a world.
-use Rattle.std.specs.Prelude.{ℕ, ◌+◌, Bool, true, false, ◌==◌, if◌then◌else◌, List, [], ◌∷◌, ◌++◌, length, map, sum_by, Option, None, Some}
+use Rattle.std.specs.Prelude.{ℕ, ◌==◌, if◌then◌else◌, List, [], ◌∷◌, ◌++◌, length, sum_by, Option, None, Some}
 use Rattle.std.specs.Option.{option_map_or}
-use Rattle.std.specs.Str.{bytes_eq}
 use Rattle.sds_value.specs.declared.row.Peer.{Peer}
 use Rattle.sds_config.specs.declared.config.Config.{Config}
 use Rattle.sds_spec.specs.declared.event.WorldEvent.{WorldEvent}
 use Rattle.sds_spec.specs.declared.event.WorldEvent.TheVariants.{Node, Open, Register, Write, Route, Push, Show}
-use Rattle.sds_spec.specs.declared.kept.KeptPeer.{KeptPeer}
 use Rattle.sds_spec.specs.declared.row.TxRow.{TxRow}
-use Rattle.sds_spec.specs.Acts.{Act, State, History}
+use Rattle.sds_spec.specs.Acts.{Act, History}
 use Rattle.sds_spec.specs.Calls.{write_answer, write_acts, route_answer, route_acts, acks_answer, acks_acts}
 use Rattle.sds_spec.specs.History.{state_of}
 use Rattle.sds_spec.specs.One.{begun, paired}
@@ -71,12 +69,12 @@ abbrev pub pushed : Config → List ℕ → List ℕ → World → World
 pushed config sender receiver w =
     pushed_by (batches_in (message_from config sender receiver w)) config (message_from config sender receiver w) (sent config sender receiver w)
 
--- a node that registers, and the one where it does, begin as each other's peers
+-- a node that registers, and the one where it does, have begun as each other's peers; acts of registration come later
 abbrev pub met : Peer → Peer → List History → List History
 met child parent [] = []
 met child parent (h ∷ nodes) =
-    (if is_node child.id h then record { opening = paired child parent; acts = [] } else
-    if is_node parent.id h then record { opening = paired parent child; acts = [] } else h) ∷ met child parent nodes
+    (if is_node child.id h then record h { opening = paired child parent } else
+    if is_node parent.id h then record h { opening = paired parent child } else h) ∷ met child parent nodes
 
 abbrev pub registered : Option History → Option History → List History → List History
 registered (Some child) (Some parent) nodes = met child.opening.me parent.opening.me nodes

@@ -1,7 +1,6 @@
 -- What a node's history leaves, each part said by itself.
 -- A history is what the node began with, and a list of acts, the newest first.
-use Rattle.std.specs.Prelude.{ℕ, ◌+◌, Bool, true, false, nat_lt, if◌then◌else◌, List, [], ◌∷◌, ◌++◌, length, filter, Option, None, Some}
-use Rattle.std.specs.Str.{bytes_eq}
+use Rattle.std.specs.Prelude.{ℕ, ◌+◌, false, nat_lt, List, [], ◌∷◌, ◌++◌, length, filter, None, Some}
 use Rattle.sds_config.specs.declared.config.Config.{Config}
 use Rattle.sds_spec.specs.declared.batch.LaneIn.{LaneIn}
 use Rattle.sds_spec.specs.declared.batch.OutBatch.{OutBatch}
@@ -91,8 +90,12 @@ abbrev pub writers_of : Config → State → List Act → List WriterLast
 writers_of config opening [] = opening.writers
 writers_of config opening (Wrote writer number rows ∷ acts) =
     let first = last_change_of config opening acts + 1 in
-    with_writer (record { writer = writer; number = number; first = first;
-    count = length (changes_from config opening.me.group None first (last_tx_of opening acts + 1) (steps_of config rows)) }) (writers_of config opening acts)
+    with_writer (record {
+      writer = writer;
+      number = number;
+      first = first;
+      count = length (changes_from config opening.me.group None first (last_tx_of opening acts + 1) (steps_of config rows));
+    }) (writers_of config opening acts)
 writers_of config opening (Routed ∷ acts) = writers_of config opening acts
 writers_of config opening (Loaded from channel batch rows ∷ acts) = writers_of config opening acts
 writers_of config opening (Acked from acks ∷ acts) = writers_of config opening acts

@@ -1,5 +1,5 @@
 -- Nodes are in step: what holds of every world that events alone have made.
-use Rattle.std.specs.Prelude.{◌≡◌, ℕ, ◌+◌, ◌≤◌, Bool, true, false, ◌&&◌, ◌==◌, nat_lt, nat_le, is_none, is_some, if◌then◌else◌, List, [], ◌∷◌, ◌++◌, length, map, take, drop, All, Contains, count_by, IfSome, Option, None, Some}
+use Rattle.std.specs.Prelude.{◌≡◌, ℕ, ◌+◌, ◌≤◌, Bool, true, false, ◌&&◌, ◌==◌, nat_lt, nat_le, is_none, is_some, if◌then◌else◌, List, [], ◌∷◌, ◌++◌, length, map, take, drop, All, count_by, sum_by, IfSome}
 use Rattle.std.specs.List.{list_any}
 use Rattle.std.specs.Str.{bytes_eq}
 use Rattle.sds_config.specs.declared.config.Config.{Config}
@@ -53,7 +53,7 @@ taken_as config s batch = (batch.id, read_rows config 1 (rows_of config s batch)
 -- a receiver has loaded a front of the sender's batches, each once and in order, and the sender knows of a front of that
 pub record LaneInStep (config : Config) (sender receiver : History) (channel : ℕ) : Type 0 where
   pub front : taken_of sender.opening.me.id channel receiver.acts
-    ≡ take (loaded sender.opening.me.id channel receiver.acts) (map (taken_as config (state_of config sender)) (made (state_of config sender) receiver.opening.me.id channel))
+      ≡ take (loaded sender.opening.me.id channel receiver.acts) (map (taken_as config (state_of config sender)) (made (state_of config sender) receiver.opening.me.id channel))
   pub known : acked (state_of config sender) receiver.opening.me.id channel ≤ loaded sender.opening.me.id channel receiver.acts
   pub within : loaded sender.opening.me.id channel receiver.acts ≤ length (made (state_of config sender) receiver.opening.me.id channel)
 
@@ -88,7 +88,7 @@ abbrev pub ReplyInStep : List History → Reply → Type 0
 ReplyInStep nodes reply =
     IfSome (history_of reply.receiver nodes) (λ (receiver : History). All (λ (ack : Ack). is_none ack.error ≡ true → is_taken reply.sender ack.batch receiver.acts ≡ true) reply.acks)
 
--- ROUTING. The tables at the first routing run after a change.
+-- ROUTING. The tables at the routing run that took a change, which is the first after it; said only of changes that a run took.
 abbrev pub tables_at_routing : Config → State → ℕ → List Act → List TableRow
 tables_at_routing config opening id [] = opening.tables
 tables_at_routing config opening id (Wrote writer number rows ∷ acts) = tables_at_routing config opening id acts
@@ -97,10 +97,10 @@ tables_at_routing config opening id (Routed ∷ acts) =
 tables_at_routing config opening id (Loaded from channel batch rows ∷ acts) = tables_at_routing config opening id acts
 tables_at_routing config opening id (Acked from acks ∷ acts) = tables_at_routing config opening id acts
 
--- how many batches to a peer in a channel hold a change
+-- how many times a change stands in the batches to a peer in a channel
 abbrev pub times_in : List ℕ → ℕ → ℕ → List OutBatch → ℕ
 times_in peer channel id batches =
-    count_by (λ (b : OutBatch). bytes_eq b.peer peer && (b.channel == channel && list_any (λ (c : ℕ). c == id) b.changes)) batches
+    sum_by (λ (b : OutBatch). if bytes_eq b.peer peer && b.channel == channel then count_by (λ (c : ℕ). c == id) b.changes else 0) batches
 
 -- once where its routers name the peer, and it is of the channel, else never
 abbrev pub times_named : Config → History → Change → KeptPeer → ℕ → ℕ
@@ -118,7 +118,7 @@ RoutedOnce config h = All (λ (change : Change).
 abbrev pub EachToPeer : List KeptPeer → List OutBatch → Type 0
 EachToPeer peers batches = All (λ (b : OutBatch). list_any (λ (kept : KeptPeer). bytes_eq kept.peer.id b.peer) peers ≡ true) batches
 
--- all of it
+-- all of it; what is said of batches in error comes later
 pub record InStep (config : Config) (w : World) : Type 0 where
   pub writers : All WritersInOrder w.nodes
   pub lanes : All (λ (sender : History). All (λ (receiver : History). (channel : ℕ) → LaneInStep config sender receiver channel) w.nodes) w.nodes

@@ -1,9 +1,5 @@
--- What a node keeps of each writer and of each lane, in lists that go by name and by place.
-use Rattle.std.specs.Prelude.{ℕ, Bool, true, false, ◌&&◌, ◌==◌, if◌then◌else◌, List, [], ◌∷◌, Option, None, Some}
-use Rattle.std.specs.Ordering.{nat_cmp}
-use Rattle.std.specs.declared.cmp.Ordering.{Ordering}
-use Rattle.std.specs.declared.cmp.Ordering.TheVariants.{Less, Equal, Greater}
-use Rattle.std.specs.Cmp.Lexicographic.{slice_cmp}
+-- What a node keeps of each writer and of each lane. Each stands where it first came; the order of the kept records comes later.
+use Rattle.std.specs.Prelude.{ℕ, Bool, ◌&&◌, ◌==◌, if◌then◌else◌, List, [], ◌∷◌, Option, None, Some}
 use Rattle.std.specs.Str.{bytes_eq}
 use Rattle.sds_spec.specs.declared.batch.LaneIn.{LaneIn}
 use Rattle.sds_spec.specs.declared.kept.WriterLast.{WriterLast}

@@ -1,14 +1,13 @@
 -- A lane leads from one node to another in one channel. What was made, acknowledged and loaded in it, and what a message holds of it.
-use Rattle.std.specs.Prelude.{ℕ, ◌+◌, Bool, true, false, ◌&&◌, ◌||◌, ◌==◌, not, if◌then◌else◌, List, [], ◌∷◌, map, filter, length, take, Option, None, Some, slice_get, count_by}
+use Rattle.std.specs.Prelude.{ℕ, ◌+◌, Bool, true, false, ◌&&◌, ◌==◌, not, if◌then◌else◌, List, [], ◌∷◌, map, filter, take, Option, None, Some, slice_get, count_by}
 use Rattle.std.specs.List.{list_any, filter_map}
 use Rattle.std.specs.Option.{option_map_or}
 use Rattle.std.specs.Str.{bytes_eq}
 use Rattle.sds_value.specs.declared.row.DocRow.{DocRow}
-use Rattle.sds_value.specs.declared.row.Event.TheVariants.{Insert}
 use Rattle.sds_value.specs.declared.row.Field.{Field}
 use Rattle.sds_value.specs.declared.row.Field.TheVariants as field
 use Rattle.sds_value.specs.declared.kind.Value.{Value}
-use Rattle.sds_value.specs.declared.kind.Value.TheVariants.{Null, Integer, Decimal, Text, Stamp, Bin}
+use Rattle.sds_value.specs.declared.kind.Value.TheVariants.{Null}
 use Rattle.sds_value.specs.declared.table.ColumnDef.{ColumnDef}
 use Rattle.sds_value.specs.Values.{printed}
 use Rattle.std.specs.Str.{chars}
@@ -22,7 +21,7 @@ use Rattle.sds_spec.specs.declared.row.Row.{Row}
 use Rattle.sds_spec.specs.Acts.{Act, State}
 use Rattle.sds_spec.specs.Acts.Act.{Wrote, Routed, Loaded, Acked}
 use Rattle.sds_spec.specs.Batches.{channel_order}
-use Rattle.sds_spec.specs.Places.{table_name, columns_of, key_places}
+use Rattle.sds_spec.specs.Places.{table_name, columns_of, key_names}
 
 abbrev pub is_ok : Standing → Bool
 is_ok standing.New = false
@@ -59,7 +58,7 @@ to_error (batch ∷ batches) = if is_erred batch.standing then batch ∷ [] else
 abbrev pub most_to_send : Config → ℕ → ℕ
 most_to_send config channel = option_map_or (λ (def : ChannelDef). def.max_batch_to_send) (slice_get config.channels channel) 0
 
--- the batches of a lane that the next message takes: the first that aren't known to be loaded
+-- the batches of a lane that the next message takes: the first that aren't known to be loaded, none behind one in error
 abbrev pub offered_in : Config → State → List ℕ → ℕ → List OutBatch
 offered_in config s to channel = take (most_to_send config channel) (to_error (filter (λ (b : OutBatch). not (is_ok b.standing)) (made s to channel)))
 
@@ -82,7 +81,7 @@ abbrev pub doc_of : Config → Change → DocRow
 doc_of config change = record {
   event = change.event;
   table = table_name config change.table;
-  keys = filter_map (λ (place : ℕ). option_map_or (λ (column : ColumnDef). Some column.name) (slice_get (columns_of config change.table) place) None) (key_places config change.table);
+  keys = key_names config change.table;
   columns = map (λ (column : ColumnDef). column.name) (columns_of config change.table);
   new = map field_of (values_of change.new);
   key = [];

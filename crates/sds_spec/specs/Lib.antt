@@ -22,3 +22,4 @@ pub mod Tables
 pub mod Texts
 pub mod TwoNodes
 pub mod World
+pub mod Worked

@@ -23,7 +23,7 @@ abbrev pub pair_table : TableDef
 pair_table = record {
   name = codes "pair";
   columns = record { name = codes "id"; kind = Integer; not_null = true; parent = None }
-    ∷ record { name = codes "text"; kind = Varchar 40; not_null = false; parent = None } ∷ [];
+      ∷ record { name = codes "text"; kind = Varchar 40; not_null = false; parent = None } ∷ [];
   key = 0 ∷ [];
 }
 
@@ -32,8 +32,13 @@ data_channel = record { id = codes "data"; processing_order = 1; max_batch_size 
 
 abbrev pub pair_trigger : TriggerDef
 pair_trigger = record {
-  id = codes "pair"; source_table = 0; channel = 0;
-  sync_on_insert = true; sync_on_update = true; sync_on_delete = true; sync_on_incoming_batch = false;
+  id = codes "pair";
+  source_table = 0;
+  channel = 0;
+  sync_on_insert = true;
+  sync_on_update = true;
+  sync_on_delete = true;
+  sync_on_incoming_batch = false;
 }
 
 abbrev pub down_router : RouterDef

@@ -1,31 +1,30 @@
 -- What loading a batch does to a node's tables: inserts without a conflict setting, which is to fall back.
 -- Transforms, other events and conflict settings come later.
-use Rattle.std.specs.Prelude.{ℕ, ◌+◌, Bool, true, false, ◌&&◌, nat_lt, if◌then◌else◌, List, [], ◌∷◌, length, map, Option, None, Some, is_none, unwrap_or, slice_set}
+use Rattle.std.specs.Prelude.{ℕ, ◌+◌, Bool, ◌==◌, ◌&&◌, nat_lt, List, [], ◌∷◌, length, map, Option, None, Some, is_none, slice_set}
 use Rattle.sds_value.specs.declared.kind.Value.{Value}
 use Rattle.sds_value.specs.declared.kind.Value.TheVariants.{Null}
 use Rattle.sds_value.specs.declared.row.DocRow.{DocRow}
-use Rattle.sds_value.specs.declared.row.Field.{Field}
 use Rattle.sds_value.specs.declared.table.ColumnDef.{ColumnDef}
 use Rattle.sds_config.specs.declared.config.Config.{Config}
 use Rattle.sds_spec.specs.declared.row.Done.{Done}
 use Rattle.sds_spec.specs.declared.row.LoadRow.{LoadRow}
 use Rattle.sds_spec.specs.declared.row.Row.{Row}
-use Rattle.sds_spec.specs.declared.row.RowStep.{RowStep}
-use Rattle.sds_spec.specs.declared.row.RowStep.TheVariants.{Insert, Update, Delete}
+use Rattle.sds_spec.specs.declared.row.RowStep.TheVariants.{Insert, Update}
 use Rattle.sds_spec.specs.declared.row.TableRow.{TableRow}
-use Rattle.sds_spec.specs.Places.{columns_of, key_places, table_place, column_place}
+use Rattle.sds_spec.specs.Places.{columns_of, key_places, key_names, table_place, column_place}
 use Rattle.sds_spec.specs.Tables.{value_at, row_at, after}
 use Rattle.sds_spec.specs.Capture.{is_insert, are_allowed, row_values}
 use Rattle.sds_spec.specs.Texts.{same_texts}
 
--- whether a document's row is an insert of every column of a table, in the table's order
+-- whether a document's row is an insert of every column of a table in the table's order, under the names of its key columns
 abbrev pub is_whole_insert : Config → DocRow → Bool
 is_whole_insert config doc = let columns = columns_of config (table_place doc.table config.tables) in
     is_insert doc.event && (nat_lt (table_place doc.table config.tables) (length config.tables)
     && (same_texts doc.columns (map (λ (column : ColumnDef). column.name) columns)
-    && (are_allowed columns doc.new && is_none doc.old)))
+    && (are_allowed columns doc.new && (is_none doc.old
+    && (same_texts doc.keys (key_names config (table_place doc.table config.tables)) && length doc.key == 0)))))
 
--- a document's row of this number, read for the tables of the configuration
+-- such a row, of this number, read for the tables of the configuration
 abbrev pub read_row : Config → ℕ → DocRow → LoadRow
 read_row config n doc = let table = table_place doc.table config.tables in let columns = columns_of config table in record {
   row = n;

@@ -1,5 +1,6 @@
 -- What a place in one of the configuration's lists stands for.
-use Rattle.std.specs.Prelude.{ℕ, ◌+◌, if◌then◌else◌, List, [], ◌∷◌, unwrap_or, slice_get}
+use Rattle.std.specs.Prelude.{ℕ, ◌+◌, if◌then◌else◌, List, [], ◌∷◌, None, Some, unwrap_or, slice_get}
+use Rattle.std.specs.List.{filter_map}
 use Rattle.std.specs.Option.{option_map_or}
 use Rattle.std.specs.Str.{bytes_eq}
 use Rattle.sds_value.specs.declared.table.ColumnDef.{ColumnDef}
@@ -21,6 +22,11 @@ columns_of config place = option_map_or (λ (def : TableDef). def.columns) (slic
 -- the places of the key columns of the table at a place
 abbrev pub key_places : Config → ℕ → List ℕ
 key_places config place = option_map_or (λ (def : TableDef). def.key) (slice_get config.tables place) []
+
+-- the names of the key columns of the table at a place
+abbrev pub key_names : Config → ℕ → List (List ℕ)
+key_names config place =
+    filter_map (λ (key : ℕ). option_map_or (λ (column : ColumnDef). Some column.name) (slice_get (columns_of config place) key) None) (key_places config place)
 
 -- the place of the table of this name, past the last where there is none
 abbrev pub table_place : List ℕ → List TableDef → ℕ

@@ -1,5 +1,5 @@
 -- What a rehearsal prints for each event.
-use Rattle.std.specs.Prelude.{ℕ, ◌+◌, Bool, ◌==◌, if◌then◌else◌, List, [], ◌∷◌, ◌++◌, length, map, Option, None, Some, Result, Ok, Err, codes}
+use Rattle.std.specs.Prelude.{ℕ, ◌+◌, ◌==◌, if◌then◌else◌, List, [], ◌∷◌, ◌++◌, length, map, Result, Ok, Err, codes}
 use Rattle.std.specs.Fmt.{decimal}
 use Rattle.std.specs.List.{join_with_byte}
 use Rattle.std.specs.Option.{option_map_or}
@@ -14,14 +14,13 @@ use Rattle.sds_spec.specs.declared.answer.Written.{Written}
 use Rattle.sds_spec.specs.declared.answer.Written.TheVariants.{Done, Again}
 use Rattle.sds_spec.specs.declared.event.WorldEvent.{WorldEvent}
 use Rattle.sds_spec.specs.declared.event.WorldEvent.TheVariants.{Node, Open, Register, Write, Route, Push, Show}
-use Rattle.sds_spec.specs.declared.row.TxRow.{TxRow}
 use Rattle.sds_spec.specs.Acts.{History}
 use Rattle.sds_spec.specs.Calls.{write_answer, route_answer, acks_answer}
-use Rattle.sds_spec.specs.Happens.{batches_in, message_from, sent, reply_to, delivered, happens}
+use Rattle.sds_spec.specs.Happens.{batches_in, message_from, reply_to, delivered, happens}
 use Rattle.sds_spec.specs.History.{state_of}
 use Rattle.sds_spec.specs.Rules.{number_of}
 use Rattle.sds_spec.specs.Shown.{tables_text}
-use Rattle.sds_spec.specs.World.{Message, Reply, World, history_of}
+use Rattle.sds_spec.specs.World.{Message, World, history_of}
 
 -- a text in UTF-8
 abbrev pub utf8 : List ℕ → List ℕ
@@ -48,10 +47,10 @@ count_words (Err fault) = codes "fault"
 abbrev pub route_line : List ℕ → Result ℕ NodeFault → List ℕ
 route_line node answer = codes "route " ++ (utf8 node ++ (codes ": " ++ (count_words answer ++ codes "\n")))
 
--- a reply's pairs, or a dash where there is none
 abbrev pub ack_word : Ack → List ℕ
 ack_word ack = codes "batch-" ++ (decimal ack.batch ++ option_map_or (λ (e : ℕ × ℕ). codes "=er." ++ (decimal e.0 ++ (codes "." ++ decimal e.1))) ack.error (codes "=ok"))
 
+-- a reply's pairs, or a dash where there is none
 abbrev pub acks_words : List Ack → List ℕ
 acks_words [] = codes "-"
 acks_words (ack ∷ acks) = join_with_byte 38 (map ack_word (ack ∷ acks))
@@ -82,6 +81,7 @@ push_text config message w =
     deliver_line (length w.messages + 1) (length w.replies + 1) (reply_to config message w).acks
     ++ printed_at message.sender (delivered config message w) (λ (h : History). answer_line (length w.replies + 1) (acks_answer (state_of config h) message.receiver (reply_to config message w).acks)))
 
+-- what an event prints; opening and registering are answered ok, and their refusals come later
 abbrev pub printed_by : Config → World → WorldEvent → List ℕ
 printed_by config w (Node peer) = []
 printed_by config w (Open at group external) = codes "open " ++ (utf8 at ++ (codes " " ++ (utf8 group ++ (codes " " ++ (utf8 external ++ codes ": ok\n")))))

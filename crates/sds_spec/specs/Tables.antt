@@ -1,5 +1,6 @@
 -- A node's tables: a list of rows, each with the place of its table, in which no two rows of one table have one key.
--- Inserts and updates stand here; an update keeps the key. Deletes, references and the limit on rows come later.
+-- Of the rules on a step the one on a second row with one key is built. Those on updates and deletes that name no row, on references
+-- and on full tables come later, and so do updates that give a row another key.
 use Rattle.std.specs.Prelude.{ℕ, Bool, true, false, ◌&&◌, ◌||◌, ◌==◌, if◌then◌else◌, List, [], ◌∷◌, ◌++◌, map, Option, None, Some, unwrap_or, slice_get}
 use Rattle.std.specs.Ordering.{int_eq}
 use Rattle.std.specs.Str.{bytes_eq}

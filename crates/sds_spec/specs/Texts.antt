@@ -1,5 +1,5 @@
 -- Words on texts and lists of texts.
-use Rattle.std.specs.Prelude.{ℕ, Bool, true, false, ◌&&◌, ◌||◌, List, [], ◌∷◌}
+use Rattle.std.specs.Prelude.{ℕ, Bool, true, false, ◌&&◌, List, [], ◌∷◌}
 use Rattle.std.specs.Str.{bytes_eq}
 
 abbrev pub same_texts : List (List ℕ) → List (List ℕ) → Bool

@@ -1,22 +1,14 @@
 -- Several nodes, the messages sent between them and the replies made, and what an event makes of them.
 -- A message that is never delivered is lost, and one may be delivered again and again, in any order.
-use Rattle.std.specs.Prelude.{ℕ, ◌+◌, Bool, true, false, ◌==◌, nat_le, if◌then◌else◌, List, [], ◌∷◌, ◌++◌, length, map, drop, take, Option, None, Some}
-use Rattle.std.specs.Option.{option_map_or}
+use Rattle.std.specs.Prelude.{ℕ, ◌+◌, Bool, ◌==◌, nat_le, if◌then◌else◌, List, [], ◌∷◌, ◌++◌, map, drop, take, Option, None, Some}
 use Rattle.std.specs.Str.{bytes_eq}
 use Rattle.sds_value.specs.declared.row.DocRow.{DocRow}
-use Rattle.sds_value.specs.declared.row.Peer.{Peer}
 use Rattle.sds_config.specs.declared.config.Config.{Config}
 use Rattle.sds_spec.specs.declared.answer.Ack.{Ack}
 use Rattle.sds_spec.specs.declared.batch.OutBatch.{OutBatch}
-use Rattle.sds_spec.specs.declared.event.WorldEvent.{WorldEvent}
-use Rattle.sds_spec.specs.declared.event.WorldEvent.TheVariants.{Node, Open, Register, Write, Route, Push, Show}
-use Rattle.sds_spec.specs.declared.kept.KeptPeer.{KeptPeer}
 use Rattle.sds_spec.specs.Acts.{Act, State, History}
 use Rattle.sds_spec.specs.Acts.Act.{Loaded}
-use Rattle.sds_spec.specs.Calls.{write_answer, write_acts, route_answer, route_acts, acks_answer, acks_acts}
-use Rattle.sds_spec.specs.History.{state_of}
 use Rattle.sds_spec.specs.Lanes.{made, acked, loaded, to_error, most_to_send, channels_of, rows_of}
-use Rattle.sds_spec.specs.One.{begun}
 use Rattle.sds_spec.specs.Outcome.{read_rows}
 
 -- a batch as a message carries it
@@ -40,7 +32,7 @@ pub record Reply : Type 0 where
   pub sender : List ℕ
   pub acks : List Ack
 
--- the messages and replies stand newest first; those who answer go by their numbers from 1
+-- the nodes, the oldest first; the messages sent and the replies made, the newest first, each numbered from 1 in the order in which they were made
 pub record World : Type 0 where
   pub nodes : List History
   pub messages : List Message
@@ -65,7 +57,8 @@ with_acts id acts (h ∷ nodes) = if is_node id h then record h { acts = acts ++
 abbrev pub sent_of : Config → State → OutBatch → Sent
 sent_of config s batch = record { id = batch.id; rows = rows_of config s batch }
 
--- a lane's batches from the first that isn't known to be loaded, as many as a message takes
+-- a lane's batches from the first that isn't known to be loaded, as many as a message takes, none behind one in error
+-- The limit on the bytes of a part comes later.
 abbrev pub part_of : Config → State → List ℕ → ℕ → Part
 part_of config s to channel = record {
   channel = channel;

@@ -6,17 +6,38 @@ use sds_value::Peer;
 #[derive(Debug, Drop)]
 pub enum WorldEvent {
     /// A node is made.
-    Node { peer: Peer },
+    Node {
+        peer: Peer,
+    },
     /// A node opens registration for a group and an external id.
-    Open { at: Txt, group: Txt, external: Txt },
+    Open {
+        at: Txt,
+        group: Txt,
+        external: Txt,
+    },
     /// A node registers at another, and each becomes the other's peer.
-    Register { asks: Txt, at: Txt },
+    Register {
+        asks: Txt,
+        at: Txt,
+    },
     /// A writer's numbered write at a node.
-    Write { node: Txt, writer: Txt, number: u64, rows: List<TxRow> },
+    Write {
+        node: Txt,
+        writer: Txt,
+        number: u64,
+        rows: List<TxRow>,
+    },
     /// A routing run at a node.
-    Route { node: Txt },
+    Route {
+        node: Txt,
+    },
     /// A message is sent, delivered and answered.
-    Push { from: Txt, to: Txt },
+    Push {
+        from: Txt,
+        to: Txt,
+    },
     /// A node's tables are shown.
-    Show { node: Txt },
+    Show {
+        node: Txt,
+    },
 }

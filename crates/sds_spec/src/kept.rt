@@ -19,7 +19,7 @@ pub struct KeptPeer {
     pub peer: Peer,
     /// What both prove themselves with; empty until registration is built.
     pub token: Txt,
-    /// Whether it registered here, or this node there.
+    /// True where it registered here, false where this node registered there.
     pub child: bool,
 }
 

@@ -1,11 +1,11 @@
 -- What a scenario says is sound: its writers are names, and its rows are those of the one table.
-use Rattle.std.proofs.Common.{◌≡◌, ℕ, Bool, true, false, ◌&&◌, cond, List, [], ◌∷◌, ◌++◌, Option, None, Some, All, refl, codes}
+use Rattle.std.proofs.Common.{◌≡◌, ℕ, Bool, true, false, ◌&&◌, List, [], ◌∷◌, ◌++◌, Option, None, Some, All, refl, codes}
 use Rattle.std.specs.Prelude.{if◌then◌else◌, IfSome, is_ok, unwrap_or}
 use Rattle.std.specs.Option.{option_map}
 use Rattle.std.specs.Str.{chars}
 use Rattle.std.proofs.lemmas.List.Elements.{All-cons, All-nil, All-append}
 use Rattle.sds_value.specs.declared.kind.Binary.TheVariants.{Base64}
-use Rattle.sds_value.specs.declared.kind.Kind.TheVariants.{Integer, Varchar}
+use Rattle.sds_value.specs.declared.kind.Kind.TheVariants.{Integer}
 use Rattle.sds_value.specs.declared.kind.Value.{Value}
 use Rattle.sds_value.specs.declared.refusal.ValueRefusal.{ValueRefusal}
 use Rattle.std.proofs.Common.{Result, Ok, Err}
@@ -20,7 +20,7 @@ use Rattle.sds_world.specs.declared.line.Opening.TheVariants.{Corp, Store, Open,
 use Rattle.sds_world.specs.declared.place.Draft.{Draft}
 use Rattle.sds_world.specs.declared.place.Place.{Place}
 use Rattle.sds_world.specs.Looking.{behind, completed, with_row, written}
-use Rattle.sds_world.specs.Scenario.{is_number, is_printed_as, is_key, is_short_text, field_of, row_of, write_of, insert_of, given_of, opening_of, step_of, or_else, said_by, line_of}
+use Rattle.sds_world.specs.Scenario.{is_number, is_printed_as, is_key, is_short_text, row_of, write_of, insert_of, given_of, opening_of, step_of, or_else, said_by, line_of}
 use Rattle.sds_world.specs.Splitting.{is_readable, is_skipped, has_quote, fields_of}
 use Rattle.sds_world.specs.Words.{are}
 use Rattle.sds_world.specs.Sound.{IsSoundLine, IsSoundDraft, IsSoundPlace, IsSoundEvent}

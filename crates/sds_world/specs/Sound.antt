@@ -1,5 +1,5 @@
 -- A scenario's writes have names as writers, and rows that the one table may have.
-use Rattle.std.specs.Prelude.{◌≡◌, true, IfSome, Option}
+use Rattle.std.specs.Prelude.{◌≡◌, true, IfSome}
 use Rattle.sds_value.specs.Names.{is_name_text}
 use Rattle.sds_spec.specs.declared.event.WorldEvent.{WorldEvent}
 use Rattle.sds_spec.specs.declared.event.WorldEvent.TheVariants as event

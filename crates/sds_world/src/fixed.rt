@@ -16,17 +16,27 @@ pub fn one(alloc: Global) -> Result<Config, NoMemory>
 {
     Ok(Config {
         groups: pair(word(alloc, "corp")?, word(alloc, "store")?, alloc)?,
-        links: single(alloc, LinkDef { source: 0, target: 1, action: Action::P })?,
+        links: single(
+            alloc,
+            LinkDef {
+                source: 0,
+                target: 1,
+                action: Action::P,
+            },
+        )?,
         channels: single(alloc, data_channel(alloc)?)?,
         tables: single(alloc, pair_table(alloc)?)?,
         triggers: single(alloc, pair_trigger(alloc)?)?,
         routers: single(alloc, down_router(alloc)?)?,
-        trigger_routers: single(alloc, TriggerRouterDef {
-            trigger: 0,
-            router: 0,
-            enabled: true,
-            ping_back_enabled: false,
-        })?,
+        trigger_routers: single(
+            alloc,
+            TriggerRouterDef {
+                trigger: 0,
+                router: 0,
+                enabled: true,
+                ping_back_enabled: false,
+            },
+        )?,
         transforms: List::new(alloc),
         conflicts: List::new(alloc),
     })

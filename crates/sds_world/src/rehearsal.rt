@@ -97,7 +97,12 @@ fn play<I: Source, W: Sink>(alloc: Global, input: &mut I, out: &mut W) -> Result
 }
 
 /// Plays a scenario's text, or a front of one that is too long, and gives the first line that it may not have.
-fn play_text(alloc: Global, text: &[u8], is_over: bool, screen: &mut Vec<u8>) -> Result<Option<Bad>, NoMemory>
+fn play_text(
+    alloc: Global,
+    text: &[u8],
+    is_over: bool,
+    screen: &mut Vec<u8>,
+) -> Result<Option<Bad>, NoMemory>
     ensures cause { IfOk result (λ bad. IfSome bad (λ (b : Bad). (b.cause ≡ 5) ⊎ (b.cause ≡ 6))) }
     ensures over { IfOk result (λ bad. is_over ≡ true → IsSome bad) }
 {
@@ -108,19 +113,31 @@ fn play_text(alloc: Global, text: &[u8], is_over: bool, screen: &mut Vec<u8>) ->
     while !rest.is_empty() {
         let (line, later) = split_line(rest);
         if is_over && text.len() - rest.len() + line.len() >= MOST_BYTES {
-            return Ok(Some(Bad { line: number, cause: TOO_LONG }));
+            return Ok(Some(Bad {
+                line: number,
+                cause: TOO_LONG,
+            }));
         }
         if !play_line(alloc, &mut stage, &mut place, line, screen)? {
-            return Ok(Some(Bad { line: number, cause: NOT_BUILT }));
+            return Ok(Some(Bad {
+                line: number,
+                cause: NOT_BUILT,
+            }));
         }
         rest = later;
         number += 1;
     }
     if is_over {
-        return Ok(Some(Bad { line: number, cause: TOO_LONG }));
+        return Ok(Some(Bad {
+            line: number,
+            cause: TOO_LONG,
+        }));
     }
     if place.draft.is_some() {
-        return Ok(Some(Bad { line: number, cause: NOT_BUILT }));
+        return Ok(Some(Bad {
+            line: number,
+            cause: NOT_BUILT,
+        }));
     }
     Ok(None)
 }

@@ -9,7 +9,9 @@ use crate::text::{
 };
 use sds_base::{List, NoMemory, Twin, Txt};
 use sds_node::Node;
-use sds_spec::{Ack, AckRefusal, LoadAnswer, NodeFault, PeerRefusal, TxRow, WorldEvent, WriteRefusal};
+use sds_spec::{
+    Ack, AckRefusal, LoadAnswer, NodeFault, PeerRefusal, TxRow, WorldEvent, WriteRefusal,
+};
 use sds_value::Peer;
 use std::alloc::Global;
 
@@ -76,12 +78,21 @@ impl Stage {
     {
         match event {
             WorldEvent::Node { peer } => self.peers.push(peer)?,
-            WorldEvent::Open { at, group, external } => {
+            WorldEvent::Open {
+                at,
+                group,
+                external,
+            } => {
                 let line = open_line(self.alloc, &at, &group, &external)?;
                 out.extend_from_slice(line.as_bytes())?;
             }
             WorldEvent::Register { asks, at } => self.register(&asks, &at, out)?,
-            WorldEvent::Write { node, writer, number, rows } => {
+            WorldEvent::Write {
+                node,
+                writer,
+                number,
+                rows,
+            } => {
                 self.write(&node, &writer, number, &rows, out)?;
             }
             WorldEvent::Route { node } => self.route(&node, out)?,
@@ -222,7 +233,13 @@ impl Stage {
     }
 
     /// Loads one batch at the receiver, and says whether it is loaded.
-    fn load(&mut self, sender: usize, receiver: usize, from: &Txt, batch: u64) -> Result<bool, NoMemory>
+    fn load(
+        &mut self,
+        sender: usize,
+        receiver: usize,
+        from: &Txt,
+        batch: u64,
+    ) -> Result<bool, NoMemory>
         requires sender { sender < vec_len self.old.nodes }
         requires receiver { receiver < vec_len self.old.nodes }
         ensures { vec_len self.new.nodes ≡ vec_len self.old.nodes }
@@ -230,7 +247,9 @@ impl Stage {
         let rows = self.nodes[sender].node.rows(batch)?;
         let node = &mut self.nodes[receiver].node;
         match node.load(from.as_str(), 0, batch, rows.inner()) {
-            Ok(LoadAnswer::Loaded { .. } | LoadAnswer::Ignored { .. } | LoadAnswer::Again) => Ok(true),
+            Ok(LoadAnswer::Loaded { .. } | LoadAnswer::Ignored { .. } | LoadAnswer::Again) => Ok(
+                true,
+            ),
             Ok(LoadAnswer::Erred { .. } | LoadAnswer::Held { .. }) => Ok(false),
             Err(PeerRefusal::Fault(NodeFault::NoMemory)) => Err(NoMemory),
             Err(_) => Ok(false),
@@ -238,7 +257,13 @@ impl Stage {
     }
 
     /// The sender takes a reply's acks.
-    fn answer(&mut self, sender: usize, to: &Txt, acks: &[Ack], out: &mut Vec<u8>) -> Result<(), NoMemory>
+    fn answer(
+        &mut self,
+        sender: usize,
+        to: &Txt,
+        acks: &[Ack],
+        out: &mut Vec<u8>,
+    ) -> Result<(), NoMemory>
         requires { sender < vec_len self.old.nodes }
     {
         let answer = self.nodes[sender].node.take_acks(to.as_str(), acks);

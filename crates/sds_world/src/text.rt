@@ -42,7 +42,12 @@ pub(crate) fn write_line(
 }
 
 /// The line of an opened registration.
-pub(crate) fn open_line(alloc: Global, at: &Txt, group: &Txt, external: &Txt) -> Result<String, NoMemory>
+pub(crate) fn open_line(
+    alloc: Global,
+    at: &Txt,
+    group: &Txt,
+    external: &Txt,
+) -> Result<String, NoMemory>
     ensures { IfOk result (λ text. string_bytes text ≡ codes "open " ++ (utf8 at.now ++ (codes " " ++ (utf8 group.now ++ (codes " " ++ (utf8 external.now ++ codes ": ok\n")))))) }
 {
     let at = at.as_str();
@@ -61,7 +66,11 @@ pub(crate) fn register_line(alloc: Global, asks: &Txt, at: &Txt) -> Result<Strin
 }
 
 /// The line of a routing run.
-pub(crate) fn route_line(alloc: Global, node: &Txt, answer: &Result<u64, NodeFault>) -> Result<String, NoMemory>
+pub(crate) fn route_line(
+    alloc: Global,
+    node: &Txt,
+    answer: &Result<u64, NodeFault>,
+) -> Result<String, NoMemory>
     ensures { IfOk result (λ text. string_bytes text ≡ route_line node.now answer.now) }
 {
     let node = node.as_str();
@@ -72,7 +81,13 @@ pub(crate) fn route_line(alloc: Global, node: &Txt, answer: &Result<u64, NodeFau
 }
 
 /// The line of a message that is sent.
-pub(crate) fn send_line(alloc: Global, number: u64, sender: &Txt, receiver: &Txt, batches: u64) -> Result<String, NoMemory>
+pub(crate) fn send_line(
+    alloc: Global,
+    number: u64,
+    sender: &Txt,
+    receiver: &Txt,
+    batches: u64,
+) -> Result<String, NoMemory>
     ensures { IfOk result (λ text. string_bytes text ≡ send_line number sender.now receiver.now batches) }
 {
     let sender = sender.as_str();
@@ -108,14 +123,23 @@ fn acks_words(alloc: Global, acks: &[Ack]) -> Result<String, NoMemory> {
 }
 
 /// The line of a message that is delivered.
-pub(crate) fn deliver_line(alloc: Global, message: u64, reply: u64, acks: &[Ack]) -> Result<String, NoMemory> {
+pub(crate) fn deliver_line(
+    alloc: Global,
+    message: u64,
+    reply: u64,
+    acks: &[Ack],
+) -> Result<String, NoMemory> {
     let words = acks_words(alloc, acks)?;
     let words = words.as_str();
     Ok(format!(in alloc; "deliver {message}: reply {reply} {words}\n")?)
 }
 
 /// The line of a reply that is answered.
-pub(crate) fn answer_line(alloc: Global, reply: u64, answer: &Result<u64, AckRefusal>) -> Result<String, NoMemory>
+pub(crate) fn answer_line(
+    alloc: Global,
+    reply: u64,
+    answer: &Result<u64, AckRefusal>,
+) -> Result<String, NoMemory>
     ensures { IfOk result (λ text. string_bytes text ≡ answer_line reply answer.now) }
 {
     Ok(match answer {

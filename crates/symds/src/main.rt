@@ -3,17 +3,18 @@
 
 mod command;
 mod status;
+#[cfg(test)]
+mod tests;
 
 use command::run;
 use sds_base::{Bytes, List, NoMemory, Txt};
 use sds_outside::{MemKeeper, MemLink, MemSource, StdSink, StdSource};
 use status::Status;
 use std::alloc::Global;
-use std::env;
-use std::io;
 use std::process::ExitCode;
 use std::random::RandomSource;
 use std::rt::Env;
+use std::{env, io};
 
 /// The words behind the program's name, or why there are none: arguments that aren't UTF-8, or want of memory.
 fn read_words<R: Env + Alloc<A = Global>>(rt: &R) -> Result<Vec<Txt>, Status> {
@@ -51,7 +52,14 @@ where
         return Status::NoMemory;
     };
     let (status, _keeper) = run(
-        alloc, &words, &mut config, &mut input, keeper, &mut link, noise, &mut out,
+        alloc,
+        &words,
+        &mut config,
+        &mut input,
+        keeper,
+        &mut link,
+        noise,
+        &mut out,
     );
     status
 }

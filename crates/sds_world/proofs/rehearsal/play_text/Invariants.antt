@@ -1,4 +1,4 @@
-use Rattle.std.proofs.Common.{◌≡◌, ◌≤◌, ◌+◌, length}
+use Rattle.std.proofs.Common.{◌≤◌, ◌+◌, length}
 use Rattle.sds_world.specs.Sound.{IsSoundPlace}
 use Rattle.sds_world.proofs.rehearsal.play_text.Given as goal
 

@@ -1,4 +1,4 @@
-use Rattle.std.proofs.Common.{◌∙◌, sym, ap}
+use Rattle.std.proofs.Common.{◌∙◌}
 use Rattle.sds_node.proofs.Known.{counted}
 use Rattle.sds_node.proofs.kept.Kept.judge_acks.Goals as goal
 

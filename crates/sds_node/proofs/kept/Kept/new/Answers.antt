@@ -1,4 +1,4 @@
-use Rattle.std.proofs.Common.{◌≡◌, refl, List, ℕ, [], ap, ◌∙◌}
+use Rattle.std.proofs.Common.{◌≡◌, refl, [], ap, ◌∙◌}
 use Rattle.std.specs.Str.{chars}
 use Rattle.std.proofs.lemmas.Str.{chars-nil}
 use Rattle.sds_node.proofs.kept.Kept.new.Goals as goal

@@ -1,0 +1,41 @@
+-- The rows of a document, in the one configuration.
+use Rattle.std.proofs.Common.{◌≡◌, ◌≢◌, ℕ, List, [], ◌∷◌, None, Some, refl, ap, ◌∙◌, suc, zero, map, codes}
+use Rattle.std.specs.Prelude.{slice_get}
+use Rattle.std.specs.Str.{chars}
+use Rattle.sds_value.specs.declared.row.DocRow.{DocRow}
+use Rattle.sds_spec.specs.declared.batch.OutBatch.{OutBatch}
+use Rattle.sds_spec.specs.declared.row.Change.{Change}
+use Rattle.sds_spec.specs.Acts.{State}
+use Rattle.sds_spec.specs.Lanes.{doc_of, field_of, values_of, rows_of}
+use Rattle.sds_spec.specs.One.{one, pair_table}
+use Rattle.sds_node.specs.Documents.{doc_with, pair_doc, docs_of}
+use Rattle.sds_node.specs.Offered.{batch_at}
+
+pub pair_name : chars (codes "pair") ≡ codes "pair"
+unfolding chars
+pair_name = refl
+
+pub id_name : chars (codes "id") ≡ codes "id"
+unfolding chars
+id_name = refl
+
+pub text_name : chars (codes "text") ≡ codes "text"
+unfolding chars
+text_name = refl
+
+no_table : (n : ℕ) → n ≢ 0 → slice_get (pair_table ∷ []) n ≡ None
+no_table zero is = absurd (is refl)
+no_table (suc n) is = refl
+
+-- a change of the one table
+pub doc_of_pair : (c : Change) → c.table ≡ 0 → doc_of one c ≡ pair_doc c.event (map field_of (values_of c.new))
+doc_of_pair c is = rw is refl
+
+-- a change of no table
+pub doc_of_none : (c : Change) → c.table ≢ 0 → doc_of one c ≡ doc_with c.event [] [] [] (map field_of (values_of c.new))
+doc_of_none c is = rw (no_table c.table is) refl
+
+-- the rows of the batch that was found
+pub rows_found : (s : State) (id : ℕ) (found : OutBatch) (docs : List DocRow) → batch_at id s.batches ≡ Some found → docs ≡ docs_of s.changes found.changes
+    → (b : OutBatch) → batch_at id s.batches ≡ Some b → docs ≡ rows_of one s b
+rows_found s id found docs at are b is = let same : found ≡ b = cc in are ∙ ap (λ (x : OutBatch). docs_of s.changes x.changes) same
