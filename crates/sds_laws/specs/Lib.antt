@@ -1,0 +1,4 @@
+pub mod Counters
+pub mod Link
+pub mod Once
+pub mod Runs
