@@ -11,13 +11,14 @@ use Rattle.std.proofs.lemmas.Bool.Decides.{nat_tests}
 use Rattle.sds_config.specs.declared.config.Config.{Config}
 use Rattle.sds_spec.specs.declared.answer.Ack.{Ack}
 use Rattle.sds_spec.specs.declared.batch.OutBatch.{OutBatch}
+use Rattle.sds_spec.specs.declared.batch.Sent.{Sent}
 use Rattle.sds_spec.specs.declared.row.LoadRow.{LoadRow}
 use Rattle.sds_spec.specs.Acts.{Act, State}
 use Rattle.sds_spec.specs.Acts.Act.{Wrote, Routed, Loaded, Acked}
 use Rattle.sds_spec.specs.InStep.{Taken, taken_of, taken_as, is_taken}
 use Rattle.sds_spec.specs.Lanes.{is_ok, made, loaded}
 use Rattle.sds_spec.specs.Outcome.{read_rows}
-use Rattle.sds_spec.specs.World.{Sent, Part, sent_of, after_batch, ack_at, received, acks_for, received_parts, acks_for_parts}
+use Rattle.sds_spec.specs.World.{Part, sent_of, after_batch, ack_at, received, acks_for, received_parts, acks_for_parts}
 use Rattle.sds_laws.proofs.Each.{Each, each_append, each_weaker}
 
 abbrev pub IsUnknown : OutBatch → Type 0
@@ -177,16 +178,16 @@ load_goes config s to from c sent acts lanes next = record {
 }
 
 -- STEP. One batch of a message.
-record Stepped (config : Config) (s : State) (to from : List ℕ) (c place : ℕ) (sent : Sent) (acts new : List Act) : Type 0 where
-  goes : Goes config s to from acts new
-  further : place + 1 ≤ loaded from c new
-  is_there : is_taken from sent.id new ≡ true
+pub record Stepped (config : Config) (s : State) (to from : List ℕ) (c place : ℕ) (sent : Sent) (acts new : List Act) : Type 0 where
+  pub goes : Goes config s to from acts new
+  pub further : place + 1 ≤ loaded from c new
+  pub is_there : is_taken from sent.id new ≡ true
 
 count_on : (b : Bool) (n : ℕ) → b ≡ true → (if b then n + 1 else n) ≡ n + 1
 count_on true n is = refl
 count_on false n is = cc
 
-by_place : (config : Config) (s : State) (to from : List ℕ) (c place : ℕ) (sent : Sent) (tail : List Sent) (acts : List Act) (b : Bool) → (place + 1 == loaded from c acts + 1) ≡ b
+pub by_place : (config : Config) (s : State) (to from : List ℕ) (c place : ℕ) (sent : Sent) (tail : List Sent) (acts : List Act) (b : Bool) → (place + 1 == loaded from c acts + 1) ≡ b
     → sent ∷ tail ≡ drop place (content config s to c) → place ≤ loaded from c acts → Lanes config s to from acts
     → Stepped config s to from c place sent acts (if b then Loaded from c sent.id (read_rows config 1 sent.rows) ∷ acts else acts)
 by_place config s to from c place sent tail acts true is lies le lanes =

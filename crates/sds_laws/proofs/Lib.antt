@@ -3,4 +3,8 @@ pub mod Counted
 pub mod Delivery
 pub mod Numbers
 pub mod Link
+pub mod ByNumber
+pub mod Fronts
 pub mod Once
+pub mod Whole
+pub mod Pairs

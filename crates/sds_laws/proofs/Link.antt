@@ -19,6 +19,7 @@ use Rattle.sds_spec.specs.declared.answer.WriteRefusal.{WriteRefusal}
 use Rattle.sds_spec.specs.declared.answer.Written.{Written}
 use Rattle.sds_spec.specs.declared.answer.Written.TheVariants.{Done, Again}
 use Rattle.sds_spec.specs.declared.batch.OutBatch.{OutBatch}
+use Rattle.sds_spec.specs.declared.batch.Sent.{Sent}
 use Rattle.sds_spec.specs.declared.batch.Standing.{Standing}
 use Rattle.sds_spec.specs.declared.batch.Standing.TheVariants as standing
 use Rattle.sds_spec.specs.declared.kept.KeptPeer.{KeptPeer}
@@ -37,7 +38,7 @@ use Rattle.sds_spec.specs.InStep.{Taken, taken_of, taken_as, is_taken, LaneInSte
 use Rattle.sds_spec.specs.Lanes.{is_ok, is_erred, made, acked, loaded, to_error, most_to_send, channels_of, change_at, rows_of, doc_of}
 use Rattle.sds_spec.specs.One.{begun, paired}
 use Rattle.sds_spec.specs.Outcome.{read_rows}
-use Rattle.sds_spec.specs.World.{Sent, Part, Message, Reply, sent_of, part_of, message_of, received_parts, acks_for_parts}
+use Rattle.sds_spec.specs.World.{Part, Message, Reply, sent_of, part_of, message_of, received_parts, acks_for_parts}
 use Rattle.sds_laws.specs.Counters.{Rising}
 use Rattle.sds_laws.specs.Link.{Link, LinkEvent, delivered, answered, link_after, LanesStayInStep, MessagesInStep, MessagesStayInStep}
 use Rattle.sds_laws.specs.Link.LinkEvent.{Write, Route, Send, Deliver, Answer}
@@ -76,13 +77,13 @@ rows_found low high changes more (n ∷ ns) within each =
     (rows_found low high changes more ns within.1 each)
 
 -- FACTS of a lane
-abbrev one_if : Bool → ℕ
+abbrev pub one_if : Bool → ℕ
 one_if t = cond t 1 0
 
-count_cons : (b : OutBatch) (others : List OutBatch) → count_by (λ (b : OutBatch). is_ok b.standing) (b ∷ others) ≡ one_if (is_ok b.standing) + count_by (λ (b : OutBatch). is_ok b.standing) others
+pub count_cons : (b : OutBatch) (others : List OutBatch) → count_by (λ (b : OutBatch). is_ok b.standing) (b ∷ others) ≡ one_if (is_ok b.standing) + count_by (λ (b : OutBatch). is_ok b.standing) others
 count_cons b others = sum_by-cons (λ (b : OutBatch). one_if (is_ok b.standing)) b others
 
-count_unknown : (rest : List OutBatch) → Each IsUnknown rest → count_by (λ (b : OutBatch). is_ok b.standing) rest ≤ 0
+pub count_unknown : (rest : List OutBatch) → Each IsUnknown rest → count_by (λ (b : OutBatch). is_ok b.standing) rest ≤ 0
 count_unknown [] unknown = omega arith
 count_unknown (b ∷ rest) unknown =
     let off : one_if (is_ok b.standing) ≡ 0 = rw unknown.0 refl in
@@ -106,16 +107,16 @@ take_front : (config : Config) (s : State) (heads rest : List OutBatch) → take
 take_front config s [] rest = refl
 take_front config s (b ∷ heads) rest = ap (λ (l : List Taken). taken_as config s b ∷ l) (take_front config s heads rest)
 
-lane_known : (config : Config) (s : State) (all : List OutBatch) (taken : List Taken) (n : ℕ) → Lane config s all taken n → count_by (λ (b : OutBatch). is_ok b.standing) all ≤ n
+pub lane_known : (config : Config) (s : State) (all : List OutBatch) (taken : List Taken) (n : ℕ) → Lane config s all taken n → count_by (λ (b : OutBatch). is_ok b.standing) all ≤ n
 lane_known config s all taken n lane = subst (λ (l : List OutBatch). count_by (λ (b : OutBatch). is_ok b.standing) l ≤ n) lane.split
     (subst (λ (k : ℕ). count_by (λ (b : OutBatch). is_ok b.standing) (lane.heads ++ lane.rest) ≤ k) (sym lane.count) (count_front lane.heads lane.rest lane.unknown))
 
-lane_within : (config : Config) (s : State) (all : List OutBatch) (taken : List Taken) (n : ℕ) → Lane config s all taken n → n ≤ length all
+pub lane_within : (config : Config) (s : State) (all : List OutBatch) (taken : List Taken) (n : ℕ) → Lane config s all taken n → n ≤ length all
 lane_within config s all taken n lane =
     let e : length lane.heads + length lane.rest ≡ length all = sym (length-append lane.heads lane.rest) ∙ ap (λ (l : List OutBatch). length l) lane.split in
     let count : n ≡ length lane.heads = lane.count in omega (arith, e, count)
 
-lane_front : (config : Config) (s : State) (all : List OutBatch) (taken : List Taken) (n : ℕ) → Lane config s all taken n → taken ≡ take n (map (taken_as config s) all)
+pub lane_front : (config : Config) (s : State) (all : List OutBatch) (taken : List Taken) (n : ℕ) → Lane config s all taken n → taken ≡ take n (map (taken_as config s) all)
 lane_front config s all taken n lane =
     lane.are ∙ (sym (take_front config s lane.heads lane.rest) ∙ (ap (λ (k : ℕ). take k (map (taken_as config s) (lane.heads ++ lane.rest))) (sym lane.count)
     ∙ ap (λ (l : List OutBatch). take n (map (taken_as config s) l)) lane.split))
@@ -151,7 +152,7 @@ any_gives : (p : OutBatch → Bool) (R : Type 0) (batches : List OutBatch) → (
 any_gives p R [] gives h = absurd (cc)
 any_gives p R (b ∷ batches) gives h = any_by p R b (list_any p batches) (p b) refl gives (any_gives p R batches gives) h
 
-or_kept : (a b c d : Bool) → (a ≡ true → c ≡ true) → (b ≡ true → d ≡ true) → (a || b) ≡ true → (c || d) ≡ true
+pub or_kept : (a b c d : Bool) → (a ≡ true → c ≡ true) → (b ≡ true → d ≡ true) → (a || b) ≡ true → (c || d) ≡ true
 or_kept true b c d left right h = rw (left refl) refl
 or_kept false b c d left right h = or_right c d (right h)
 
@@ -174,7 +175,7 @@ any_front : (p : OutBatch → Bool) (heads rest : List OutBatch) → list_any p 
 any_front p [] rest h = absurd (cc)
 any_front p (b ∷ heads) rest h = or_kept (p b) (list_any p heads) (p b) (list_any p (heads ++ rest)) (λ t. t) (any_front p heads rest) h
 
-rising_by : (p : OutBatch → Bool) (low high : ℕ) (b : OutBatch) (batches : List OutBatch) (t : Bool) → p b ≡ t → low < b.id → Rising b.id high (filter p batches) → Rising low high (filter p (b ∷ batches))
+pub rising_by : (p : OutBatch → Bool) (low high : ℕ) (b : OutBatch) (batches : List OutBatch) (t : Bool) → p b ≡ t → low < b.id → Rising b.id high (filter p batches) → Rising low high (filter p (b ∷ batches))
 rising_by p low high b batches true is lt rising = rw is (lt, rising)
 rising_by p low high b batches false is lt rising = rw is (rising_further low b.id high (filter p batches) (omega (arith, lt)) rising)
 
@@ -182,7 +183,7 @@ rising_filter : (p : OutBatch → Bool) (low high : ℕ) (batches : List OutBatc
 rising_filter p low high [] rising = rising
 rising_filter p low high (b ∷ batches) rising = rising_by p low high b batches (p b) refl rising.0 (rising_filter p b.id high batches rising.1)
 
-all_above : (n low high : ℕ) (batches : List OutBatch) → n ≤ low → Rising low high batches → Each (λ (b : OutBatch). n < b.id) batches
+pub all_above : (n low high : ℕ) (batches : List OutBatch) → n ≤ low → Rising low high batches → Each (λ (b : OutBatch). n < b.id) batches
 all_above n low high [] le rising = tt
 all_above n low high (b ∷ batches) le rising = (omega (arith, le, rising.0), all_above n b.id high batches (omega (arith, le, rising.0)) rising.1)
 
@@ -231,15 +232,15 @@ some_lane from x (Acked peer acks ∷ acts) h = some_lane from x acts h
 abbrev pub in_lane : List ℕ → ℕ → OutBatch → Bool
 in_lane to channel b = bytes_eq b.peer to && b.channel == channel
 
-and_left : (a b : Bool) → (a && b) ≡ true → a ≡ true
+pub and_left : (a b : Bool) → (a && b) ≡ true → a ≡ true
 and_left true b is = refl
 and_left false b is = is
 
-and_right : (a b : Bool) → (a && b) ≡ true → b ≡ true
+pub and_right : (a b : Bool) → (a && b) ≡ true → b ≡ true
 and_right true b is = is
 and_right false b is = absurd (cc)
 
-not_true : (b : Bool) → (b ≡ true → ⊥) → b ≡ false
+pub not_true : (b : Bool) → (b ≡ true → ⊥) → b ≡ false
 not_true true never = absurd (never refl)
 not_true false never = refl
 
@@ -315,7 +316,7 @@ last_unknown : (acks : List Ack) (id : ℕ) (before : Standing) → is_ok before
 last_unknown [] id before is = is
 last_unknown (ack ∷ acks) id before is = last_unknown acks id _ (ack_error (ack.batch == id) ack.error before is)
 
-stays_unknown : (all : List OutBatch) (acks : List Ack) (b : OutBatch) (before : Standing) → is_ok before ≡ false → is_acked_by all acks b ≡ false → is_ok (standing_after all acks b before) ≡ false
+pub stays_unknown : (all : List OutBatch) (acks : List Ack) (b : OutBatch) (before : Standing) → is_ok before ≡ false → is_acked_by all acks b ≡ false → is_ok (standing_after all acks b before) ≡ false
 stays_unknown all acks b standing.New is off = rw off (last_unknown acks b.id standing.New is)
 stays_unknown all acks b (standing.Erred row rule) is off = rw off (last_unknown acks b.id (standing.Erred row rule) is)
 stays_unknown all acks b standing.Acked is off = cc
@@ -329,25 +330,25 @@ acked_by_test : (all : List OutBatch) (acks : List Ack) (to : List ℕ) (c : ℕ
 acked_by_test all acks to c b batches true is on = rw is (ap (λ (l : List OutBatch). after_acks all acks b ∷ l) on)
 acked_by_test all acks to c b batches false is on = rw is on
 
-made_acked : (all : List OutBatch) (acks : List Ack) (to : List ℕ) (c : ℕ) (batches : List OutBatch)
+pub made_acked : (all : List OutBatch) (acks : List Ack) (to : List ℕ) (c : ℕ) (batches : List OutBatch)
     → filter (in_lane to c) (map (after_acks all acks) batches) ≡ map (after_acks all acks) (filter (in_lane to c) batches)
 made_acked all acks to c [] = refl
 made_acked all acks to c (b ∷ batches) = acked_by_test all acks to c b batches (in_lane to c b) refl (made_acked all acks to c batches)
 
 -- LINK. What is kept of a sender with these acts, a receiver with these, the messages and the replies.
-abbrev at : Config → Peer → List KeptPeer → List Act → State
+abbrev pub at : Config → Peer → List KeptPeer → List Act → State
 at config me peers acts = state_of config (record { opening = begun me peers; acts = acts })
 
-abbrev MessageKept : Config → State → List ℕ → List ℕ → List Act → Message → Type 0
+abbrev pub MessageKept : Config → State → List ℕ → List ℕ → List Act → Message → Type 0
 MessageKept config s to from acts message = (message.sender ≡ from) × Each (PartKept config s to from acts) message.parts
 
-abbrev ReplyKept : List ℕ → List Act → Reply → Type 0
+abbrev pub ReplyKept : List ℕ → List Act → Reply → Type 0
 ReplyKept from acts reply = Each (AckTaken from acts) reply.acks
 
-record Kept (config : Config) (s : State) (to from : List ℕ) (acts : List Act) (messages : List Message) (replies : List Reply) : Type 0 where
-  lanes : Lanes config s to from acts
-  lie : Each (MessageKept config s to from acts) messages
-  name : Each (ReplyKept from acts) replies
+pub record Kept (config : Config) (s : State) (to from : List ℕ) (acts : List Act) (messages : List Message) (replies : List Reply) : Type 0 where
+  pub lanes : Lanes config s to from acts
+  pub lie : Each (MessageKept config s to from acts) messages
+  pub name : Each (ReplyKept from acts) replies
 
 -- a lane where batches keep their rows
 same_rows : (config : Config) (s s' : State) (all : List OutBatch) (taken : List Taken) (n : ℕ) → Each (λ (b : OutBatch). rows_of config s b ≡ rows_of config s' b) all
@@ -472,7 +473,7 @@ kept_wrote config me peers mine to from acts messages replies writer number rows
 }
 
 -- ROUTE
-new_unknown : (id : ℕ) (pieces : List Piece) → Each IsUnknown (batches_from id pieces)
+pub new_unknown : (id : ℕ) (pieces : List Piece) → Each IsUnknown (batches_from id pieces)
 new_unknown id [] = tt
 new_unknown id (piece ∷ pieces) = (refl, new_unknown (id + 1) pieces)
 
@@ -517,11 +518,11 @@ front_by : (t : Bool) (b : OutBatch) (batches : List OutBatch) → (rest : List 
 front_by true b batches front = (batches, refl)
 front_by false b batches front = (front.0, ap (λ (l : List OutBatch). b ∷ l) front.1)
 
-front_to_error : (batches : List OutBatch) → (rest : List OutBatch) × (to_error batches ++ rest ≡ batches)
+pub front_to_error : (batches : List OutBatch) → (rest : List OutBatch) × (to_error batches ++ rest ≡ batches)
 front_to_error [] = ([], refl)
 front_to_error (b ∷ batches) = front_by (is_erred b.standing) b batches (front_to_error batches)
 
-part_kept : (config : Config) (s : State) (to from : List ℕ) (acts : List Act) (channel : ℕ) → Lanes config s to from acts → PartKept config s to from acts (part_of config s to channel)
+pub part_kept : (config : Config) (s : State) (to from : List ℕ) (acts : List Act) (channel : ℕ) → Lanes config s to from acts → PartKept config s to from acts (part_of config s to channel)
 part_kept config s to from acts channel lanes =
     let front : (rest : List OutBatch) × (to_error (drop (acked s to channel) (made s to channel)) ++ rest ≡ drop (acked s to channel) (made s to channel)) =
     front_to_error (drop (acked s to channel) (made s to channel)) in
@@ -537,7 +538,7 @@ part_kept config s to from acts channel lanes =
       begins = lane_known config s (made s to channel) (taken_of from channel acts) (loaded from channel acts) (lanes channel);
     }
 
-message_kept : (config : Config) (s : State) (to from : List ℕ) (acts : List Act) → s.me.id ≡ from → Lanes config s to from acts → MessageKept config s to from acts (message_of config s to [])
+pub message_kept : (config : Config) (s : State) (to from : List ℕ) (acts : List Act) → s.me.id ≡ from → Lanes config s to from acts → MessageKept config s to from acts (message_of config s to [])
 message_kept config s to from acts is lanes = (
   is,
   each_map (PartKept config s to from acts) (part_of config s to) (channels_of config [])
@@ -550,7 +551,7 @@ each_at P [] which x is each = absurd (cc)
 each_at P (y ∷ ys) zero x is each = let same : y ≡ x = cc in subst P same each.0
 each_at P (y ∷ ys) (suc which) x is each = each_at P ys which x is each.1
 
-kept_delivered : (config : Config) (s : State) (to from : List ℕ) (acts : List Act) (messages : List Message) (replies : List Reply) (message : Message)
+pub kept_delivered : (config : Config) (s : State) (to from : List ℕ) (acts : List Act) (messages : List Message) (replies : List Reply) (message : Message)
     → MessageKept config s to from acts message → Kept config s to from acts messages replies
     → Kept config s to from (received_parts config message.sender message.parts acts) messages
     (record { receiver = message.receiver; sender = message.sender; acks = acks_for_parts config message.sender message.parts acts } ∷ replies)
@@ -570,10 +571,10 @@ kept_delivered config s to from acts messages replies message lies kept =
     }
 
 -- LINK
-abbrev others : Peer → List KeptPeer
+abbrev pub others : Peer → List KeptPeer
 others other = record { peer = other; token = []; child = false } ∷ []
 
-abbrev link_of : Peer → Peer → List Act → List Act → List Message → List Reply → Link
+abbrev pub link_of : Peer → Peer → List Act → List Act → List Message → List Reply → Link
 link_of me other mine acts messages replies = record {
   sender = record { opening = paired me other; acts = mine };
   receiver = record { opening = paired other me; acts = acts };
@@ -581,10 +582,10 @@ link_of me other mine acts messages replies = record {
   replies = replies;
 }
 
-abbrev Stands : Config → Peer → Peer → List Act → List Act → List Message → List Reply → Type 0
+abbrev pub Stands : Config → Peer → Peer → List Act → List Act → List Message → List Reply → Type 0
 Stands config me other mine acts messages replies = Kept config (at config me (others other) mine) other.id me.id acts messages replies
 
-write_stands : (config : Config) (me other : Peer) (mine acts : List Act) (messages : List Message) (replies : List Reply) (r : Result Written WriteRefusal) (writer : List ℕ) (number : ℕ) (rows : List TxRow)
+pub write_stands : (config : Config) (me other : Peer) (mine acts : List Act) (messages : List Message) (replies : List Reply) (r : Result Written WriteRefusal) (writer : List ℕ) (number : ℕ) (rows : List TxRow)
     → Stands config me other mine acts messages replies → Stands config me other (write_acts r writer number rows ++ mine) acts messages replies
 write_stands config me other mine acts messages replies (Ok (Done first count)) writer number rows kept =
     kept_wrote config me (others other) mine other.id me.id acts messages replies writer number rows kept
@@ -596,7 +597,7 @@ route_by : (config : Config) (me other : Peer) (mine acts : List Act) (messages 
 route_by config me other mine acts messages replies true kept = kept_routed config me (others other) mine other.id me.id acts messages replies kept
 route_by config me other mine acts messages replies false kept = kept
 
-route_stands : (config : Config) (me other : Peer) (mine acts : List Act) (messages : List Message) (replies : List Reply) (r : Result ℕ NodeFault) (s : State)
+pub route_stands : (config : Config) (me other : Peer) (mine acts : List Act) (messages : List Message) (replies : List Reply) (r : Result ℕ NodeFault) (s : State)
     → Stands config me other mine acts messages replies → Stands config me other (route_acts r s ++ mine) acts messages replies
 route_stands config me other mine acts messages replies (Err fault) s kept = kept
 route_stands config me other mine acts messages replies (Ok batches) s kept = route_by config me other mine acts messages replies (nat_lt 0 (length (unrouted s))) kept
@@ -606,7 +607,7 @@ acks_by_count : (config : Config) (me other : Peer) (mine acts : List Act) (mess
 acks_by_count config me other mine acts messages replies by acks true named kept = kept
 acks_by_count config me other mine acts messages replies by acks false named kept = kept_acked config me (others other) mine other.id me.id acts messages replies by acks named kept
 
-acks_stand : (config : Config) (me other : Peer) (mine acts : List Act) (messages : List Message) (replies : List Reply) (r : Result ℕ AckRefusal) (by : List ℕ) (acks : List Ack) → Each (AckTaken me.id acts) acks
+pub acks_stand : (config : Config) (me other : Peer) (mine acts : List Act) (messages : List Message) (replies : List Reply) (r : Result ℕ AckRefusal) (by : List ℕ) (acks : List Ack) → Each (AckTaken me.id acts) acks
     → Stands config me other mine acts messages replies → Stands config me other (acks_acts r by acks ++ mine) acts messages replies
 acks_stand config me other mine acts messages replies (Err refusal) by acks named kept = kept
 acks_stand config me other mine acts messages replies (Ok changed) by acks named kept = acks_by_count config me other mine acts messages replies by acks (changed == 0) named kept
@@ -649,7 +650,7 @@ always config me other Goal follows (Deliver which ∷ events) mine acts message
 always config me other Goal follows (Answer which ∷ events) mine acts messages replies kept =
     answer_follows config me other (LaterOf config Goal events) (always config me other Goal follows events) mine acts messages replies which (slice_get replies which) refl kept
 
-at_first : (config : Config) (me other : Peer) → Stands config me other [] [] [] []
+pub at_first : (config : Config) (me other : Peer) → Stands config me other [] [] [] []
 at_first config me other = record { lanes = λ channel. record { heads = []; rest = []; split = refl; are = refl; count = refl; unknown = tt }; lie = tt; name = tt }
 
 lane_in_step : (config : Config) (me other : Peer) (channel : ℕ) → Follows config me other (λ (l : Link). LaneInStep config l.sender l.receiver channel)
@@ -664,7 +665,7 @@ in_step config me other events channel =
     always config me other (λ (l : Link). LaneInStep config l.sender l.receiver channel) (lane_in_step config me other channel) events [] [] [] [] (at_first config me other)
 
 -- MESSAGES AND REPLIES
-part_in_step : (config : Config) (me other : Peer) (mine acts : List Act) (messages : List Message) (replies : List Reply) (part : Part)
+pub part_in_step : (config : Config) (me other : Peer) (mine acts : List Act) (messages : List Message) (replies : List Reply) (part : Part)
     → PartKept config (at config me (others other) mine) other.id me.id acts part
     → PartInStep config (link_of me other mine acts messages replies).sender (link_of me other mine acts messages replies).receiver part
 part_in_step config me other mine acts messages replies part kept = record {

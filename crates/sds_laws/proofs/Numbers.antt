@@ -150,7 +150,7 @@ acked : (config : Config) (writer from : List ℕ) (acks : List Ack) (h : Histor
 acked config writer from acks h (Err refusal) kept = kept
 acked config writer from acks h (Ok changed) kept = acked_by config writer from acks h (changed == 0) kept
 
-IsKept-called : (config : Config) (writer : List ℕ) (h : History) (call : Call) → IsKept config writer h → IsKept config writer (called config h call)
+pub IsKept-called : (config : Config) (writer : List ℕ) (h : History) (call : Call) → IsKept config writer h → IsKept config writer (called config h call)
 IsKept-called config writer h (Write name number rows) kept = wrote config writer name number rows h _ refl kept
 IsKept-called config writer h Route kept = routed config writer h (state_of config h) (route_answer config (state_of config h)) kept
 IsKept-called config writer h (Load from channel batch rows) kept =

@@ -118,7 +118,7 @@ once p r low high (c ∷ changes) rising =
     )
 
 -- BATCHES of one lane
-abbrev lane_piece : List ℕ → List Change → Piece
+abbrev pub lane_piece : List ℕ → List Change → Piece
 lane_piece k piece = record { peer = k; channel = 0; changes = piece }
 
 abbrev in_batch : List ℕ → ℕ → ℕ → OutBatch → ℕ
@@ -177,13 +177,13 @@ times_acked k channel id all acks (b ∷ batches) =
     ∙ (ap (λ (m : ℕ). in_batch k channel id b + m) (times_acked k channel id all acks batches) ∙ sym e)
 
 -- ROUTING under the one configuration
-abbrev goes : Peer → Peer → List Act → Change → Bool
+abbrev pub goes : Peer → Peer → List Act → Change → Bool
 goes me other acts c = c.channel == 0 && is_named one me (tables_of one (paired me other) acts) c other
 
-flat_one : {X Y : Type 0} (f : X → List Y) (x : X) → flat_map f (x ∷ []) ≡ f x
+pub flat_one : {X Y : Type 0} (f : X → List Y) (x : X) → flat_map f (x ∷ []) ≡ f x
 flat_one f x = flat_map-cons f x [] ∙ append-nil (f x)
 
-pieces_are : (me other : Peer) (acts : List Act)
+pub pieces_are : (me other : Peer) (acts : List Act)
     → next_pieces one (paired me other) acts ≡ map (lane_piece other.id) (cut 10000 (filter (goes me other acts) (unrouted_of one (paired me other) acts)))
 pieces_are me other acts =
     flat_one (λ (channel : ℕ). flat_map (lane_pieces one me (tables_of one (paired me other) acts) (unrouted_of one (paired me other) acts) channel) (paired me other).peers) 0

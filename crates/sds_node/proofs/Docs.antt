@@ -6,10 +6,9 @@ use Rattle.sds_value.specs.declared.row.DocRow.{DocRow}
 use Rattle.sds_spec.specs.declared.batch.OutBatch.{OutBatch}
 use Rattle.sds_spec.specs.declared.row.Change.{Change}
 use Rattle.sds_spec.specs.Acts.{State}
-use Rattle.sds_spec.specs.Lanes.{doc_of, field_of, values_of, rows_of}
+use Rattle.sds_spec.specs.Lanes.{doc_of, field_of, values_of, batch_at, rows_at}
 use Rattle.sds_spec.specs.One.{one, pair_table}
 use Rattle.sds_node.specs.Documents.{doc_with, pair_doc, docs_of}
-use Rattle.sds_node.specs.Offered.{batch_at}
 
 pub pair_name : chars (codes "pair") ≡ codes "pair"
 unfolding chars
@@ -36,6 +35,9 @@ pub doc_of_none : (c : Change) → c.table ≢ 0 → doc_of one c ≡ doc_with c
 doc_of_none c is = rw (no_table c.table is) refl
 
 -- the rows of the batch that was found
-pub rows_found : (s : State) (id : ℕ) (found : OutBatch) (docs : List DocRow) → batch_at id s.batches ≡ Some found → docs ≡ docs_of s.changes found.changes
-    → (b : OutBatch) → batch_at id s.batches ≡ Some b → docs ≡ rows_of one s b
-rows_found s id found docs at are b is = let same : found ≡ b = cc in are ∙ ap (λ (x : OutBatch). docs_of s.changes x.changes) same
+pub rows_found : (s : State) (id : ℕ) (found : OutBatch) (docs : List DocRow) → batch_at id s.batches ≡ Some found → docs ≡ docs_of s.changes found.changes → docs ≡ rows_at one s id
+rows_found s id found docs at are = rw at are
+
+-- no batch has the number
+pub no_rows : (s : State) (id : ℕ) → batch_at id s.batches ≡ None → [] ≡ rows_at one s id
+no_rows s id at = rw at refl

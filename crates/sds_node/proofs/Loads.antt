@@ -35,6 +35,7 @@ use Rattle.sds_spec.specs.Kept.{highest_in}
 use Rattle.sds_node.specs.Loaded.{doc_row, overwritten, updated, with_row, with_rows, IsRowAt, taken_in}
 use Rattle.sds_node.specs.Meaning.{followed_by}
 use Rattle.sds_node.specs.Steps.{loaded}
+use Rattle.sds_spec.proofs.Uncaptured.{no_changes}
 use Rattle.sds_node.proofs.Histories.{loaded-state}
 
 -- the place of the row of a key, found
@@ -47,20 +48,6 @@ row_found key rows i kept inside item same put = record {
       let here : is_at one 0 (key_of one 0 row.row) kept ≡ true = ap (λ (k : List Value). is_at one 0 k kept) is ∙ same in
       rw (put row is) (rw (drop_more rows i kept inside) (rw (← item) (rw here (rw (add-one, one_kept) (sym (set_split rows i (updated row kept') inside))))));
 }
-
-or_none : (b : Bool) → if◌then◌else◌ {A = Option ℕ} b None None ≡ None
-or_none true = refl
-or_none false = refl
-
--- no step of a batch is captured
-not_captured : (group : List ℕ) (step : RowStep) → captured_channel one group false step ≡ None
-not_captured group (Insert table row) = or_none (0 == table)
-not_captured group (Update table key row) = or_none (0 == table)
-not_captured group (Delete table key) = or_none (0 == table)
-
-pub no_changes : (group sender : List ℕ) (id tx : ℕ) (dones : List Done) → changes_from one group (Some sender) id tx dones ≡ []
-no_changes group sender id tx [] = refl
-no_changes group sender id tx (done ∷ dones) = rw (not_captured group done.step) (no_changes group sender id tx dones)
 
 in_table : (e b r : Bool) → (e && (nat_lt (if b then 0 else 1) 1 && r)) ≡ true → b ≡ true
 in_table true true r is = refl

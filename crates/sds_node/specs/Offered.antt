@@ -20,8 +20,3 @@ open_ids most to [] = []
 open_ids most to (batch ∷ batches) =
     if most == 0 then [] else
     if is_open to batch then (if is_erred batch.standing then batch.id ∷ [] else batch.id ∷ open_ids (most - 1) to batches) else open_ids most to batches
-
--- the first batch of a number
-abbrev pub batch_at : ℕ → List OutBatch → Option OutBatch
-batch_at id [] = None
-batch_at id (batch ∷ batches) = if batch.id == id then Some batch else batch_at id batches

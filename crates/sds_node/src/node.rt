@@ -4,13 +4,11 @@ ghost use Rattle.sds_value.specs.Names.{is_name_text};
 ghost use Rattle.sds_spec.specs.Acts.{History};
 ghost use Rattle.sds_spec.specs.Calls.{write_answer, write_acts, is_peer, route_answer, route_acts, load_answer_of, load_acts, offer_answer, acks_answer, acks_acts};
 ghost use Rattle.sds_spec.specs.Kept.{writer_in};
-ghost use Rattle.sds_spec.specs.Lanes.{rows_of};
+ghost use Rattle.sds_spec.specs.Lanes.{rows_at};
 ghost use Rattle.sds_spec.specs.Outcome.{is_whole_insert};
 ghost use Rattle.sds_spec.specs.Shown.{tables_text};
 ghost use Rattle.sds_spec.specs.Settled.{kept_number, all_ok};
-ghost use Rattle.sds_spec.specs.declared.batch.OutBatch.{OutBatch};
 ghost use Rattle.sds_value.specs.declared.row.DocRow.{DocRow};
-ghost use Rattle.sds_node.specs.Offered.{batch_at};
 ghost use Rattle.sds_spec.specs.One.{one, paired};
 ghost use Rattle.sds_node.specs.NewRows.{ArePairRows};
 
@@ -115,7 +113,7 @@ impl Node {
 
     /// The rows of one of the node's batches, as a document carries them; none for a number that is no batch's.
     pub fn rows(&self, batch: u64) -> Result<List<DocRow>, NoMemory>
-        ensures { IfOk result (λ docs. (b : OutBatch) → batch_at batch (kept_of self.now).batches ≡ Some b → docs ≡ rows_of one (kept_of self.now) b) }
+        ensures { IfOk result (λ docs. docs ≡ rows_at one (kept_of self.now) batch) }
     {
         match batch_at(&self.kept.batches, batch) {
             Some(kept) => make_docs(self.alloc, &self.kept.changes, kept.changes.inner()),

@@ -1,10 +1,10 @@
 // What a node offers to its peer: the batches that aren't known to be loaded, and their rows.
 ghost use Rattle.std.specs.Prelude.{◌≡◌, ◌∷◌, [], IfOk, MatchOption, None, Some, map};
 ghost use Rattle.std.specs.Str.{chars};
-ghost use Rattle.sds_spec.specs.Lanes.{is_ok, is_erred, field_of, values_of, doc_of, change_at};
+ghost use Rattle.sds_spec.specs.Lanes.{is_ok, is_erred, field_of, values_of, doc_of, change_at, batch_at};
 ghost use Rattle.sds_spec.specs.One.{one};
 ghost use Rattle.sds_node.specs.Documents.{doc_with, pair_doc, docs_of};
-ghost use Rattle.sds_node.specs.Offered.{is_open, open_ids, batch_at};
+ghost use Rattle.sds_node.specs.Offered.{is_open, open_ids};
 
 use crate::routing::CHANNEL;
 use crate::rows::TABLE;

@@ -2,3 +2,4 @@ pub mod TwoNodesComputed
 pub mod WorkedComputed
 pub mod CutLaw
 pub mod CutOnly
+pub mod Uncaptured

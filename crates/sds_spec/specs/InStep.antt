@@ -5,6 +5,7 @@ use Rattle.std.specs.Str.{bytes_eq}
 use Rattle.sds_config.specs.declared.config.Config.{Config}
 use Rattle.sds_spec.specs.declared.answer.Ack.{Ack}
 use Rattle.sds_spec.specs.declared.batch.OutBatch.{OutBatch}
+use Rattle.sds_spec.specs.declared.batch.Sent.{Sent}
 use Rattle.sds_spec.specs.declared.kept.KeptPeer.{KeptPeer}
 use Rattle.sds_spec.specs.declared.row.Change.{Change}
 use Rattle.sds_spec.specs.declared.row.LoadRow.{LoadRow}
@@ -15,7 +16,7 @@ use Rattle.sds_spec.specs.History.{state_of, tables_of, changes_of, routed_of, b
 use Rattle.sds_spec.specs.Lanes.{made, acked, loaded, rows_of}
 use Rattle.sds_spec.specs.Outcome.{read_rows}
 use Rattle.sds_spec.specs.Routing.{is_named}
-use Rattle.sds_spec.specs.World.{Sent, Part, Message, Reply, World, sent_of, history_of}
+use Rattle.sds_spec.specs.World.{Part, Message, Reply, World, sent_of, history_of}
 
 -- WRITERS. The numbers of a writer's writes, the newest first.
 abbrev pub numbers_of : List ℕ → List Act → List ℕ

@@ -96,3 +96,12 @@ change_at id (change ∷ changes) = if change.id == id then Some change else cha
 -- the rows of a batch
 abbrev pub rows_of : Config → State → OutBatch → List DocRow
 rows_of config s batch = map (doc_of config) (filter_map (λ (id : ℕ). change_at id s.changes) batch.changes)
+
+-- the batch of a number
+abbrev pub batch_at : ℕ → List OutBatch → Option OutBatch
+batch_at id [] = None
+batch_at id (batch ∷ batches) = if batch.id == id then Some batch else batch_at id batches
+
+-- the rows of the batch of a number, or none where no batch has it
+abbrev pub rows_at : Config → State → ℕ → List DocRow
+rows_at config s id = option_map_or (rows_of config s) (batch_at id s.batches) []

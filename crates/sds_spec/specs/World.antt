@@ -2,19 +2,14 @@
 -- A message that is never delivered is lost, and one may be delivered again and again, in any order.
 use Rattle.std.specs.Prelude.{ℕ, ◌+◌, Bool, ◌==◌, nat_le, if◌then◌else◌, List, [], ◌∷◌, ◌++◌, map, drop, take, Option, None, Some}
 use Rattle.std.specs.Str.{bytes_eq}
-use Rattle.sds_value.specs.declared.row.DocRow.{DocRow}
 use Rattle.sds_config.specs.declared.config.Config.{Config}
 use Rattle.sds_spec.specs.declared.answer.Ack.{Ack}
 use Rattle.sds_spec.specs.declared.batch.OutBatch.{OutBatch}
+use Rattle.sds_spec.specs.declared.batch.Sent.{Sent}
 use Rattle.sds_spec.specs.Acts.{Act, State, History}
 use Rattle.sds_spec.specs.Acts.Act.{Loaded}
 use Rattle.sds_spec.specs.Lanes.{made, acked, loaded, to_error, most_to_send, channels_of, rows_of}
 use Rattle.sds_spec.specs.Outcome.{read_rows}
-
--- a batch as a message carries it
-pub record Sent : Type 0 where
-  pub id : ℕ
-  pub rows : List DocRow
 
 -- what a message holds of a channel's lane: the batches behind the first so many
 pub record Part : Type 0 where

@@ -1,5 +1,6 @@
 use crate::Rule;
 use sds_base::{List, Txt};
+use sds_value::DocRow;
 
 /// What is known of an outgoing batch's fate.
 #[derive(Clone, Copy, Debug, PartialEq, Eq)]
@@ -23,6 +24,15 @@ pub struct OutBatch {
     pub standing: Standing,
     /// The numbers of its changes.
     pub changes: List<u64>,
+}
+
+/// A batch as a message carries it.
+#[derive(Debug, Drop)]
+pub struct Sent {
+    /// Its number at the sender.
+    pub id: u64,
+    /// Its rows as a document has them.
+    pub rows: List<DocRow>,
 }
 
 /// The batch of a lane that is in error, its row from 1, and the rule that the row broke.

@@ -17,7 +17,7 @@ mod tests;
 mod worked;
 
 pub use answer::{Ack, AckRefusal, LoadAnswer, NodeFault, PeerRefusal, WriteRefusal, Written};
-pub use batch::{LaneError, LaneIn, OutBatch, Standing};
+pub use batch::{LaneError, LaneIn, OutBatch, Sent, Standing};
 pub use event::WorldEvent;
 pub use kept::{Counts, KeptPeer, WriterLast};
 pub use laws::{changes_have_one_cut, cut_is_the_cut};

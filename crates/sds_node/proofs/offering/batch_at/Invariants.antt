@@ -1,5 +1,5 @@
 use Rattle.std.proofs.Common.{◌≡◌, drop}
-use Rattle.sds_node.specs.Offered.{batch_at}
+use Rattle.sds_spec.specs.Lanes.{batch_at}
 use Rattle.sds_node.proofs.offering.batch_at.Given as goal
 
 abbrev pub invariant-loop-batch : goal.invariant-loop-batch
