@@ -7,4 +7,5 @@ pub mod ByNumber
 pub mod Fronts
 pub mod Once
 pub mod Whole
-pub mod Pairs
+pub mod PairKept
+pub mod PairEvents

@@ -3,6 +3,7 @@
 
 mod counters;
 mod lanes;
+mod pairs;
 mod routed;
 #[cfg(test)]
 mod tests;
@@ -10,5 +11,6 @@ mod writers;
 
 pub use counters::{counters_never_fall, numbers_stay_within};
 pub use lanes::{lanes_stay_in_step, messages_stay_in_step};
+pub use pairs::pairs_stay_in_step;
 pub use routed::routed_once;
 pub use writers::writers_stay_in_order;

@@ -8,4 +8,5 @@ fn each_law_is_called(_rt: HostRuntime) {
     lanes_stay_in_step();
     messages_stay_in_step();
     routed_once();
+    pairs_stay_in_step();
 }

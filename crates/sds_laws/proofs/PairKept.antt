@@ -52,10 +52,10 @@ use Rattle.sds_laws.proofs.Once.{goes, lane_piece, pieces_are, stays_once}
 use Rattle.sds_laws.proofs.Whole.{IsOwn, IsWhole, captured_whole, sents_whole}
 
 -- KEPT
-abbrev MadeTo : Peer → Message → Type 0
+abbrev pub MadeTo : Peer → Message → Type 0
 MadeTo receiver message = message.receiver ≡ receiver.id
 
-abbrev MadeBy : Peer → Peer → Reply → Type 0
+abbrev pub MadeBy : Peer → Peer → Reply → Type 0
 MadeBy sender receiver reply = (reply.receiver ≡ receiver.id) × (reply.sender ≡ sender.id)
 
 pub record Pair (sender receiver : Peer) (mine acts : List Act) (messages : List Message) (replies : List Reply) : Type 0 where
@@ -69,7 +69,7 @@ pub record Pair (sender receiver : Peer) (mine acts : List Act) (messages : List
   pub made_to : Each (MadeTo receiver) messages
   pub made_by : Each (MadeBy sender receiver) replies
 
-same_name : (name : List ℕ) → bytes_eq name name ≡ true
+pub same_name : (name : List ℕ) → bytes_eq name name ≡ true
 same_name name = (bytes_eq-Decides name name).1 refl
 
 -- THE ONE LANE holds all batches.
@@ -80,7 +80,7 @@ all_pass : (p : OutBatch → Bool) (batches : List OutBatch) → Each (λ (b : O
 all_pass p [] each = refl
 all_pass p (b ∷ batches) each = rw each.0 (ap (λ (l : List OutBatch). b ∷ l) (all_pass p batches each.1))
 
-none_pass : (p : OutBatch → Bool) (batches : List OutBatch) → Each (λ (b : OutBatch). p b ≡ false) batches → filter p batches ≡ []
+pub none_pass : (p : OutBatch → Bool) (batches : List OutBatch) → Each (λ (b : OutBatch). p b ≡ false) batches → filter p batches ≡ []
 none_pass p [] each = refl
 none_pass p (b ∷ batches) each = rw each.0 (none_pass p batches each.1)
 
