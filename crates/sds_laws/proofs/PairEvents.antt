@@ -125,10 +125,10 @@ pair_routed sender receiver mine acts messages replies pair =
     (route_stands one sender receiver mine acts messages replies (route_answer one (at one sender (others receiver) mine)) (at one sender (others receiver) mine) pair.stands) pair
 
 -- PUSH: a message, its delivery, and the answer of its reply
-abbrev next_message : Peer → Peer → List Act → Message
+abbrev pub next_message : Peer → Peer → List Act → Message
 next_message sender receiver mine = message_of one (at one sender (others receiver) mine) receiver.id []
 
-abbrev reply_of : Peer → Peer → Message → List Act → Reply
+abbrev pub reply_of : Peer → Peer → Message → List Act → Reply
 reply_of sender receiver message acts = record { receiver = receiver.id; sender = sender.id; acks = acks_for_parts one sender.id message.parts acts }
 
 pair_sent : (sender receiver : Peer) (mine acts : List Act) (messages : List Message) (replies : List Reply) → Pair sender receiver mine acts messages replies
@@ -198,7 +198,7 @@ pair_answered sender receiver mine acts messages replies acks named pair =
     (acks_stand one sender receiver mine acts messages replies (acks_answer (at one sender (others receiver) mine) receiver.id acks) receiver.id acks named pair.stands) pair
 
 -- WORLDS of the two
-message_is : (sender receiver : Peer) (mine acts : List Act) (messages : List Message) (replies : List Reply)
+pub message_is : (sender receiver : Peer) (mine acts : List Act) (messages : List Message) (replies : List Reply)
     → message_from one sender.id receiver.id (pair_world sender receiver mine acts messages replies) ≡ next_message sender receiver mine
 message_is sender receiver mine acts messages replies = rw (same_name sender.id) refl
 
@@ -212,7 +212,7 @@ world_routed : (sender receiver : Peer) (mine acts : List Act) (messages : List 
     ≡ pair_world sender receiver (route_acts (route_answer one (at one sender (others receiver) mine)) (at one sender (others receiver) mine) ++ mine) acts messages replies
 world_routed sender receiver mine acts messages replies = rw (same_name sender.id) refl
 
-world_delivered : (sender receiver : Peer) (mine acts : List Act) (messages : List Message) (replies : List Reply) → bytes_eq sender.id receiver.id ≡ false
+pub world_delivered : (sender receiver : Peer) (mine acts : List Act) (messages : List Message) (replies : List Reply) → bytes_eq sender.id receiver.id ≡ false
     → delivered one (next_message sender receiver mine) (pair_world sender receiver mine acts messages replies)
     ≡ pair_world sender receiver mine (received_parts one sender.id (next_message sender receiver mine).parts acts) messages (reply_of sender receiver (next_message sender receiver mine) acts ∷ replies)
 world_delivered sender receiver mine acts messages replies apart = rw (apart, same_name receiver.id) refl
@@ -231,7 +231,7 @@ record Next (sender receiver : Peer) (w : World) : Type 0 where
   is : w ≡ pair_world sender receiver mine acts messages replies
   pair : Pair sender receiver mine acts messages replies
 
-reply_is : (sender receiver : Peer) (mine acts : List Act) (messages : List Message) (replies : List Reply) → bytes_eq sender.id receiver.id ≡ false
+pub reply_is : (sender receiver : Peer) (mine acts : List Act) (messages : List Message) (replies : List Reply) → bytes_eq sender.id receiver.id ≡ false
     → reply_to one (next_message sender receiver mine) (pair_world sender receiver mine acts messages replies) ≡ reply_of sender receiver (next_message sender receiver mine) acts
 reply_is sender receiver mine acts messages replies apart = rw (apart, same_name receiver.id) refl
 
@@ -318,11 +318,11 @@ pair_first sender receiver = record {
 }
 
 -- IN STEP
-sender_found : (sender receiver : Peer) (mine acts : List Act) (messages : List Message) (replies : List Reply)
+pub sender_found : (sender receiver : Peer) (mine acts : List Act) (messages : List Message) (replies : List Reply)
     → history_of sender.id (pair_world sender receiver mine acts messages replies).nodes ≡ Some (record { opening = paired sender receiver; acts = mine })
 sender_found sender receiver mine acts messages replies = rw (same_name sender.id) refl
 
-receiver_found : (sender receiver : Peer) (mine acts : List Act) (messages : List Message) (replies : List Reply) → bytes_eq sender.id receiver.id ≡ false
+pub receiver_found : (sender receiver : Peer) (mine acts : List Act) (messages : List Message) (replies : List Reply) → bytes_eq sender.id receiver.id ≡ false
     → history_of receiver.id (pair_world sender receiver mine acts messages replies).nodes ≡ Some (record { opening = paired receiver sender; acts = acts })
 receiver_found sender receiver mine acts messages replies apart = rw (apart, same_name receiver.id) refl
 

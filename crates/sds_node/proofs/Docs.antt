@@ -33,11 +33,3 @@ doc_of_pair c is = rw is refl
 -- a change of no table
 pub doc_of_none : (c : Change) → c.table ≢ 0 → doc_of one c ≡ doc_with c.event [] [] [] (map field_of (values_of c.new))
 doc_of_none c is = rw (no_table c.table is) refl
-
--- the rows of the batch that was found
-pub rows_found : (s : State) (id : ℕ) (found : OutBatch) (docs : List DocRow) → batch_at id s.batches ≡ Some found → docs ≡ docs_of s.changes found.changes → docs ≡ rows_at one s id
-rows_found s id found docs at are = rw at are
-
--- no batch has the number
-pub no_rows : (s : State) (id : ℕ) → batch_at id s.batches ≡ None → [] ≡ rows_at one s id
-no_rows s id at = rw at refl

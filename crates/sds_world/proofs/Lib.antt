@@ -1,5 +1,11 @@
 pub mod Cuts
+pub mod Joined
+pub mod Loading
+pub mod Lookups
+pub mod Meeting
 pub mod Numbers
 pub mod Plain
+pub mod Staged
+pub mod Pushing
 pub mod Spacing
 pub mod Soundness

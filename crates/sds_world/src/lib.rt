@@ -6,6 +6,8 @@ mod fixed;
 mod forms;
 mod line;
 mod lines;
+mod message;
+mod nodes;
 mod place;
 mod rehearsal;
 mod stage;

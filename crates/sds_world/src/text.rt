@@ -1,5 +1,6 @@
 // The lines of a screen.
-ghost use Rattle.std.specs.Prelude.{◌≡◌, ◌++◌, ◌∷◌, [], IfOk, List, ℕ, string_bytes, Result, Ok, Err, codes};
+ghost use Rattle.std.specs.Prelude.{◌≡◌, ◌++◌, ◌∷◌, [], IfOk, OnOk, List, ℕ, string_bytes, Result, Ok, Err, codes};
+ghost use Rattle.sds_world.specs.Acking.{others_words};
 ghost use Rattle.sds_spec.specs.Screen.{write_words, write_line, route_line, count_words, send_line, answer_line, changed_words, ack_word, acks_words, deliver_line, utf8};
 
 use sds_base::{NoMemory, Txt};
@@ -106,20 +107,28 @@ fn ack_word(alloc: Global, ack: &Ack) -> Result<String, NoMemory>
     })
 }
 
-/// A reply's pairs, or a dash where there is none.
-fn acks_words(alloc: Global, acks: &[Ack]) -> Result<String, NoMemory> {
-    if acks.is_empty() {
-        return Ok(String::from_str(alloc, "-")?);
-    }
-    let mut words = String::new(alloc);
-    for (place, ack) in acks.iter().enumerate() {
-        if place > 0 {
-            words.push_str("&")?;
-        }
+/// Writes the words of further acks behind those that stand, `&` before each.
+fn put_others(alloc: Global, acks: &[Ack], words: &mut String) -> Result<(), NoMemory>
+    ensures { OnOk result (string_bytes words.new ≡ string_bytes words.old ++ others_words acks.now) }
+{
+    for ack in acks {
         let word = ack_word(alloc, ack)?;
+        words.push_str("&")?;
         words.push_str(word.as_str())?;
     }
-    Ok(words)
+    Ok(())
+}
+
+/// A reply's pairs, or a dash where there is none.
+fn acks_words(alloc: Global, acks: &[Ack]) -> Result<String, NoMemory>
+    ensures { IfOk result (λ text. string_bytes text ≡ acks_words acks.now) }
+{
+    if let [first, others @ ..] = acks {
+        let mut words = ack_word(alloc, first)?;
+        put_others(alloc, others, &mut words)?;
+        return Ok(words);
+    }
+    Ok(String::from_str(alloc, "-")?)
 }
 
 /// The line of a message that is delivered.
@@ -128,7 +137,9 @@ pub(crate) fn deliver_line(
     message: u64,
     reply: u64,
     acks: &[Ack],
-) -> Result<String, NoMemory> {
+) -> Result<String, NoMemory>
+    ensures { IfOk result (λ text. string_bytes text ≡ deliver_line message reply acks.now) }
+{
     let words = acks_words(alloc, acks)?;
     let words = words.as_str();
     Ok(format!(in alloc; "deliver {message}: reply {reply} {words}\n")?)
