@@ -1,4 +1,5 @@
 pub mod Cuts
+pub mod Fronts
 pub mod Joined
 pub mod Loading
 pub mod Lookups
@@ -8,4 +9,8 @@ pub mod Plain
 pub mod Staged
 pub mod Pushing
 pub mod Spacing
+pub mod Shaping
+pub mod Utf8Fields
+pub mod Stepping
+pub mod Turning
 pub mod Soundness

@@ -2,7 +2,13 @@
 use Rattle.std.proofs.Common.{◌≡◌, ℕ, Bool, true, false, ◌&&◌, List, [], ◌∷◌, ◌++◌, Option, None, Some, All, refl, codes}
 use Rattle.std.specs.Prelude.{if◌then◌else◌, IfSome, is_ok, unwrap_or}
 use Rattle.std.specs.Option.{option_map}
-use Rattle.std.specs.Str.{chars}
+use Rattle.std.specs.List.{list_all}
+use Rattle.std.specs.Prelude.{nat_le}
+use Rattle.std.specs.Str.{chars, IsUtf8, is_utf8}
+use Rattle.std.proofs.lemmas.Str.{scalars-chars, IsUtf8-from_is_utf8}
+use Rattle.std.proofs.Common.{length, inl, inr}
+use Rattle.sds_laws.specs.Pairs.{is_of_characters, is_written_row}
+use Rattle.sds_world.proofs.Utf8Fields.{AreUtf8, fields_utf8}
 use Rattle.std.proofs.lemmas.List.Elements.{All-cons, All-nil, All-append}
 use Rattle.sds_value.specs.declared.kind.Binary.TheVariants.{Base64}
 use Rattle.sds_value.specs.declared.kind.Kind.TheVariants.{Integer}
@@ -52,7 +58,7 @@ opening-sound fields =
 step-sound : (fields : List (List ℕ)) → MaySay (step_of fields)
 step-sound fields =
     by_test _ (Some End) _ (record { says = tt }) (by_test _ (Some Route) _ (record { says = tt }) (by_test _ (Some Push) _ (record { says = tt })
-    (by_test _ (Some (Show (codes "corp"))) _ (record { says = tt }) (by_test _ (Some (Show (codes "s1"))) None (record { says = tt }) nothing))))
+    (by_test _ (Some (Show (codes "corp"))) _ (record { says = inl refl }) (by_test _ (Some (Show (codes "s1"))) None (record { says = inr refl }) nothing))))
 
 named : (b c : Bool) (writer : List ℕ) (number : ℕ) → is_name_text writer ≡ b → MaySay (if b && c then Some (Write writer number) else None)
 named true true writer number is = record { says = is }
@@ -63,39 +69,51 @@ printed_is_ok : (r : Result Value ValueRefusal) (field : List ℕ) → is_printe
 printed_is_ok (Ok value) field is = refl
 printed_is_ok (Err refusal) field is = cc
 
-row-sound : (key text : List ℕ) → is_key key ≡ true → is_short_text text ≡ true → is_own_insert one (row_of key text) ≡ true
-row-sound key [] is_first is_second = let first : is_ok (value_of Integer Base64 (chars key)) ≡ true = printed_is_ok _ key is_first in rw first refl
-row-sound key (b ∷ text) is_first is_second = let first : is_ok (value_of Integer Base64 (chars key)) ≡ true = printed_is_ok _ key is_first in rw (first, is_second) refl
+row-own : (key text : List ℕ) → is_key key ≡ true → is_short_text text ≡ true → is_own_insert one (row_of key text) ≡ true
+row-own key [] is_first is_second = let first : is_ok (value_of Integer Base64 (chars key)) ≡ true = printed_is_ok _ key is_first in rw first refl
+row-own key (b ∷ text) is_first is_second = let first : is_ok (value_of Integer Base64 (chars key)) ≡ true = printed_is_ok _ key is_first in rw (first, is_second) refl
 
-inserted : (b c : Bool) (key text : List ℕ) → is_key key ≡ b → is_short_text text ≡ c → MaySay (if b && c then Some (Row (row_of key text)) else None)
-inserted true true key text first second = record { says = row-sound key text first second }
-inserted true false key text first second = nothing
-inserted false c key text first second = nothing
+of_characters : (key text : List ℕ) → IsUtf8 key → IsUtf8 text → list_all is_of_characters (row_of key text).fields ≡ true
+of_characters key [] first second = rw (scalars-chars key first) refl
+of_characters key (b ∷ text) first second = rw (scalars-chars key first, scalars-chars (b ∷ text) second) refl
 
-given-sound : (fields : List (List ℕ)) → MaySay (given_of fields)
-given-sound [] = nothing
-given-sound (a ∷ []) = nothing
-given-sound (a ∷ (b ∷ [])) = nothing
-given-sound (a ∷ (b ∷ (c ∷ []))) = nothing
-given-sound (a ∷ (b ∷ (c ∷ (d ∷ [])))) =
+row-sound : (key text : List ℕ) → IsUtf8 key → IsUtf8 text → is_key key ≡ true → is_short_text text ≡ true → is_written_row (row_of key text) ≡ true
+row-sound key text first second is_first is_second = rw (row-own key text is_first is_second, of_characters key text first second) refl
+
+inserted : (b c : Bool) (key text : List ℕ) → IsUtf8 key → IsUtf8 text → is_key key ≡ b → is_short_text text ≡ c → MaySay (if b && c then Some (Row (row_of key text)) else None)
+inserted true true key text is_key_text is_text first second = record { says = row-sound key text is_key_text is_text first second }
+inserted true false key text is_key_text is_text first second = nothing
+inserted false c key text is_key_text is_text first second = nothing
+
+given-sound : (fields : List (List ℕ)) → AreUtf8 fields → MaySay (given_of fields)
+given-sound [] utf8 = nothing
+given-sound (a ∷ []) utf8 = nothing
+given-sound (a ∷ (b ∷ [])) utf8 = nothing
+given-sound (a ∷ (b ∷ (c ∷ []))) utf8 = nothing
+given-sound (a ∷ (b ∷ (c ∷ (d ∷ [])))) utf8 =
     by_test (are (a ∷ (b ∷ [])) (codes "write" ∷ (codes "corp" ∷ []))) (write_of c d) _ (named (is_name_text (chars c)) (is_number d) (chars c) (digits_value d) refl)
-    (by_test (are (a ∷ (b ∷ [])) (codes "insert" ∷ (codes "pair" ∷ []))) (insert_of c d) None (inserted (is_key c) (is_short_text d) c d refl refl) nothing)
-given-sound (a ∷ (b ∷ (c ∷ (d ∷ (e ∷ fields))))) = nothing
+    (by_test (are (a ∷ (b ∷ [])) (codes "insert" ∷ (codes "pair" ∷ []))) (insert_of c d) None (inserted (is_key c) (is_short_text d) c d utf8.1.1.0 utf8.1.1.1.0 refl refl) nothing)
+given-sound (a ∷ (b ∷ (c ∷ (d ∷ (e ∷ fields))))) utf8 = nothing
 
 or_other : (x : Option Line) → MaySay x → IsSoundLine (unwrap_or x Other)
 or_other None may = tt
 or_other (Some line) may = may.says
 
-by_tests : (b c d : Bool) (line : Line) → IsSoundLine line → IsSoundLine (if b then (if c then Skip else (if d then Other else line)) else Other)
+by_tests : (b c d : Bool) (line : Line) → (b ≡ true → IsSoundLine line) → IsSoundLine (if b then (if c then Skip else (if d then Other else line)) else Other)
 by_tests true true d line sound = tt
 by_tests true false true line sound = tt
-by_tests true false false line sound = sound
+by_tests true false false line sound = sound refl
 by_tests false c d line sound = tt
+
+right_of : (a b : Bool) → (a && b) ≡ true → b ≡ true
+right_of true b is = is
+right_of false b is = absurd (cc)
 
 pub line-sound : (bytes : List ℕ) → IsSoundLine (line_of bytes)
 line-sound bytes =
     by_tests (is_readable bytes) (is_skipped bytes) (has_quote bytes) (said_by (fields_of bytes))
-    (or_other _ (first_of _ _ (opening-sound (fields_of bytes)) (first_of _ _ (given-sound (fields_of bytes)) (step-sound (fields_of bytes)))))
+    (λ is. (let utf8 : AreUtf8 (fields_of bytes) = fields_utf8 bytes (IsUtf8-from_is_utf8 bytes (right_of (nat_le (length bytes) 1048576) (is_utf8 bytes) is)) in
+        or_other _ (first_of _ _ (opening-sound (fields_of bytes)) (first_of _ _ (given-sound (fields_of bytes) utf8) (step-sound (fields_of bytes))))))
 
 abbrev IsPair : TxRow → Type 0
 IsPair row = is_own_insert one row ≡ true
@@ -103,9 +121,13 @@ IsPair row = is_own_insert one row ≡ true
 all_more : (rows : List TxRow) (row : TxRow) → All IsPair rows → IsPair row → All IsPair (rows ++ row ∷ [])
 all_more rows row are is = All-append IsPair rows (row ∷ []) are (All-cons IsPair row [] is (All-nil IsPair))
 
-row_added : (draft : Option Draft) (row : TxRow) → IfSome draft IsSoundDraft → IsPair row → IfSome (option_map (with_row row) draft) IsSoundDraft
+left_of : (a b : Bool) → (a && b) ≡ true → a ≡ true
+left_of true b is = refl
+left_of false b is = is
+
+row_added : (draft : Option Draft) (row : TxRow) → IfSome draft IsSoundDraft → is_written_row row ≡ true → IfSome (option_map (with_row row) draft) IsSoundDraft
 row_added None row sound is = tt
-row_added (Some draft) row sound is = record { named = sound.named; rows = all_more draft.rows row sound.rows is }
+row_added (Some draft) row sound is = record { named = sound.named; rows = all_more draft.rows row sound.rows (left_of (is_own_insert one row) _ is) }
 
 -- the place behind a sound line is sound
 pub behind-sound : (place : Place) (line : Line) → IsSoundPlace place → IsSoundLine line → IsSoundPlace (behind place line)

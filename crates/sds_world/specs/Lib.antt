@@ -1,8 +1,10 @@
 pub mod Acking
 pub mod Looking
+pub mod Played
 pub mod Playing
 pub mod Scenario
 pub mod Settling
+pub mod Shapes
 pub mod Sound
 pub mod Splitting
 pub mod Words

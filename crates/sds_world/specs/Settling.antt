@@ -3,6 +3,8 @@ use Rattle.std.specs.Prelude.{ℕ, Bool, true, List, [], ◌∷◌}
 use Rattle.sds_spec.specs.Kept.{writer_in}
 use Rattle.sds_spec.specs.Settled.{kept_number, all_ok}
 use Rattle.sds_node.specs.Meaning.{kept_of}
+use Rattle.sds_world.specs.declared.line.Line.{Line}
+use Rattle.sds_world.specs.declared.line.Line.TheVariants.{Skip, Opening, Write, Row, End, Route, Push, Show, Other}
 use Rattle.sds_world.specs.declared.nodes.Named.{Named}
 
 -- the number of a writer's last accepted write, or 0
@@ -14,3 +16,8 @@ last_by writer (named ∷ nodes) = kept_number (writer_in writer (kept_of named.
 abbrev pub settled_by : List Named → Bool
 settled_by [] = true
 settled_by (named ∷ nodes) = all_ok (kept_of named.node).batches
+
+-- the number of the last accepted write of the writer whose write begins with a line, 0 for any other line
+abbrev pub last_said : List Named → Line → ℕ
+last_said nodes (Write writer number) = last_by writer nodes
+last_said nodes line = 0

@@ -1,25 +1,25 @@
--- A scenario's writes have names as writers, and rows that the one table may have.
-use Rattle.std.specs.Prelude.{◌≡◌, true, IfSome}
+-- A scenario's writes have names as writers and rows that the one table may have, and it shows the tables of its two nodes.
+use Rattle.std.specs.Prelude.{◌≡◌, ◌⊎◌, true, IfSome}
 use Rattle.sds_value.specs.Names.{is_name_text}
 use Rattle.sds_spec.specs.declared.event.WorldEvent.{WorldEvent}
 use Rattle.sds_spec.specs.declared.event.WorldEvent.TheVariants as event
-use Rattle.sds_spec.specs.Capture.{is_own_insert}
-use Rattle.sds_spec.specs.One.{one}
+use Rattle.sds_laws.specs.Pairs.{is_written_row}
 use Rattle.sds_node.specs.NewRows.{ArePairRows}
 use Rattle.sds_world.specs.declared.line.Line.{Line}
 use Rattle.sds_world.specs.declared.line.Line.TheVariants.{Skip, Opening, Write, Row, End, Route, Push, Show, Other}
 use Rattle.sds_world.specs.declared.place.Draft.{Draft}
 use Rattle.sds_world.specs.declared.place.Place.{Place}
+use Rattle.sds_world.specs.Looking.{corp, s1}
 
 abbrev pub IsSoundLine : Line → Type 0
 IsSoundLine Skip = Unit {0}
 IsSoundLine (Opening which) = Unit {0}
 IsSoundLine (Write writer number) = is_name_text writer ≡ true
-IsSoundLine (Row row) = is_own_insert one row ≡ true
+IsSoundLine (Row row) = is_written_row row ≡ true
 IsSoundLine End = Unit {0}
 IsSoundLine Route = Unit {0}
 IsSoundLine Push = Unit {0}
-IsSoundLine (Show node) = Unit {0}
+IsSoundLine (Show node) = (node ≡ corp.id) ⊎ (node ≡ s1.id)
 IsSoundLine Other = Unit {0}
 
 pub record IsSoundDraft (draft : Draft) : Type 0 where

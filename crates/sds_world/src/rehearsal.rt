@@ -1,11 +1,16 @@
-ghost use Rattle.std.specs.Prelude.{◌≡◌, ◌⊎◌, ◌<◌, ◌≤◌, ◌+◌, ◌^◌, ◌++◌, [], ℕ, true, IsSome, Ok, Err, OnOk, OnErr, IfOk, IfSome, IsTrue, length, vec_len, take};
+ghost use Rattle.std.specs.Prelude.{◌≡◌, ◌⊎◌, ◌<◌, ◌≤◌, ◌+◌, ◌^◌, ◌++◌, ◌∷◌, [], ℕ, List, true, false, IsSome, Some, Err, OnOk, IfOk, IfSome, IsTrue, length, take};
 ghost use Rattle.sds_outside.specs.Causes.{Rose};
-ghost use Rattle.sds_outside.specs.Told.{IsAtEnd, after_told};
+ghost use Rattle.sds_outside.specs.Told.{IsAtEnd};
+ghost use Rattle.sds_spec.specs.Happens.{world_after};
+ghost use Rattle.sds_spec.specs.InStep.{InStep};
 ghost use Rattle.sds_spec.specs.One.{one};
-ghost use Rattle.sds_world.specs.declared.rehearsal.Bad.{Bad};
+ghost use Rattle.sds_spec.specs.Screen.{screen_of};
+ghost use Rattle.sds_spec.specs.World.{empty_world};
 ghost use Rattle.sds_world.specs.Sound.{IsSoundLine, IsSoundPlace, IsSoundEvent};
 ghost use Rattle.sds_world.specs.Scenario.{line_of};
 ghost use Rattle.sds_world.specs.Looking.{behind, completed, has_room};
+ghost use Rattle.sds_world.specs.Played.{most_bytes, judged, may_stand, events_from, events_of, refusal_from, ending, Shows};
+ghost use Rattle.sds_world.specs.Shapes.{Behind, printed_line};
 
 use crate::stage::Stage;
 use crate::{Line, Place, fits, read_line, split_line, take_line};
@@ -39,9 +44,9 @@ pub enum WorldRefusal {
 
 /// The line, from 1, at which a scenario is refused, and the cause.
 #[derive(Clone, Copy, Debug, PartialEq, Eq)]
-struct Bad {
-    line: u64,
-    cause: u8,
+pub(crate) struct BadLine {
+    pub(crate) line: u64,
+    pub(crate) cause: u8,
 }
 
 /// Plays a scenario and writes what it prints, and hands back its nodes' keepers, of which there are none yet.
@@ -57,6 +62,10 @@ pub fn rehearse<I: Source, W: Sink>(
     out: &mut W,
 ) -> (Result<(), WorldRefusal>, Vec<MemKeeper>)
     requires { config.now ≡ one }
+    // What is answered and written is what the text of the input says.
+    ensures shows { IfSome (I.left input.old) (λ text. Shows text result.0 (W.taken out.old) (W.taken out.new)) }
+    // After each of its events the nodes are in step.
+    ensures in_step { IfSome (I.left input.old) (λ text. (n : ℕ) → InStep one (world_after one empty_world (take n (events_of text)))) }
     ensures done { OnOk result.0 (IsAtEnd (I.left input.new)) }
     ensures read { result.0 ≡ Err WorldRefusal.ReadFault → Rose (I.faults input.old) (I.faults input.new) }
     ensures read_writes { result.0 ≡ Err WorldRefusal.ReadFault → W.taken out.new ≡ W.taken out.old }
@@ -69,8 +78,16 @@ pub fn rehearse<I: Source, W: Sink>(
     (play(alloc, input, out), Vec::new(alloc))
 }
 
+/// After each event of each scenario the nodes of the world are in step: each writer's numbers are 1, 2, 3 and so on; what a
+/// node loaded of a lane is a front of what was made, each batch once; a batch known to be loaded is; and each change that a
+/// routing run took stands in exactly the batches to the peers that its routers named.
+pub fn scenarios_stay_in_step()
+    ensures { (text : List ℕ) (n : ℕ) → InStep one (world_after one empty_world (take n (events_of text))) }
+{}
+
 /// Reads the input, plays it, and writes what it prints.
 fn play<I: Source, W: Sink>(alloc: Global, input: &mut I, out: &mut W) -> Result<(), WorldRefusal>
+    ensures shows { IfSome (I.left input.old) (λ text. Shows text result (W.taken out.old) (W.taken out.new)) }
     ensures done { OnOk result (IsAtEnd (I.left input.new)) }
     ensures read { result ≡ Err WorldRefusal.ReadFault → Rose (I.faults input.old) (I.faults input.new) }
     ensures read_writes { result ≡ Err WorldRefusal.ReadFault → W.taken out.new ≡ W.taken out.old }
@@ -82,69 +99,92 @@ fn play<I: Source, W: Sink>(alloc: Global, input: &mut I, out: &mut W) -> Result
         Err(ReadStop::Fault) => return Err(WorldRefusal::ReadFault),
         Err(ReadStop::NoMemory) => return Err(WorldRefusal::NoMemory),
     };
-    let mut screen = Vec::new(alloc);
-    let bad = match play_text(alloc, whole.bytes.inner(), whole.is_over, &mut screen) {
-        Ok(bad) => bad,
+    let text = first_bytes(whole.bytes.inner());
+    let played = match play_text(alloc, text, whole.is_over) {
+        Ok(played) => played,
         Err(NoMemory) => return Err(WorldRefusal::NoMemory),
     };
-    if write_all(out, &screen).is_err() {
+    if write_all(out, &played.screen).is_err() {
         return Err(WorldRefusal::WriteFault);
     }
+    end(played.bad)
+}
+
+/// The answer to a rehearsal that was read and written.
+fn end(bad: Option<BadLine>) -> Result<(), WorldRefusal>
+    ensures { result ≡ ending bad }
+{
     match bad {
-        Some(Bad { line, cause }) => Err(WorldRefusal::BadLine { line, cause }),
+        Some(BadLine { line, cause }) => Err(WorldRefusal::BadLine { line, cause }),
         None => Ok(()),
     }
 }
 
-/// Plays a scenario's text, or a front of one that is too long, and gives the first line that it may not have.
-fn play_text(
-    alloc: Global,
-    text: &[u8],
-    is_over: bool,
-    screen: &mut Vec<u8>,
-) -> Result<Option<Bad>, NoMemory>
-    ensures cause { IfOk result (λ bad. IfSome bad (λ (b : Bad). (b.cause ≡ 5) ⊎ (b.cause ≡ 6))) }
-    ensures over { IfOk result (λ bad. is_over ≡ true → IsSome bad) }
+/// The first 1 GiB of a text and one byte more, or all of it.
+fn first_bytes(text: &[u8]) -> &[u8]
+    ensures { result.now ≡ take (most_bytes + 1) text.now }
+{
+    if text.len() > MOST_BYTES {
+        return &text[..MOST_BYTES + 1];
+    }
+    text
+}
+
+/// What a text prints, and the first line that it may not have.
+#[derive(Drop)]
+struct Played {
+    screen: Vec<u8>,
+    bad: Option<BadLine>,
+}
+
+/// Plays a scenario's text, or the front that ends with the first byte too many.
+fn play_text(alloc: Global, text: &[u8], is_over: bool) -> Result<Played, NoMemory>
+    requires { length text.now ≤ 2 ^ 30 + 1 }
+    ensures bad { IfOk result (λ played. played.bad ≡ refusal_from is_over [] (judged is_over text.now)) }
+    ensures screen { IfOk result (λ played. played.screen.items ≡ screen_of one empty_world (events_from [] (judged is_over text.now))) }
+    ensures cause { IfOk result (λ played. IfSome played.bad (λ (b : BadLine). (b.cause ≡ 5) ⊎ (b.cause ≡ 6))) }
+    ensures over { IfOk result (λ played. is_over ≡ true → IsSome played.bad) }
 {
     let mut stage = Stage::new(alloc);
     let mut place = Place::start();
+    let mut screen = Vec::new(alloc);
     let mut number = 1;
     let mut rest = text;
     while !rest.is_empty() {
         let (line, later) = split_line(rest);
-        if is_over && text.len() - rest.len() + line.len() >= MOST_BYTES {
-            return Ok(Some(Bad {
-                line: number,
-                cause: TOO_LONG,
-            }));
+        if is_over && later.is_empty() {
+            return Ok(stopped(screen, number, TOO_LONG));
         }
-        if !play_line(alloc, &mut stage, &mut place, line, screen)? {
-            return Ok(Some(Bad {
-                line: number,
-                cause: NOT_BUILT,
-            }));
+        if !play_line(alloc, &mut stage, &mut place, line, &mut screen)? {
+            return Ok(stopped(screen, number, NOT_BUILT));
         }
         rest = later;
         number += 1;
     }
     if is_over {
-        return Ok(Some(Bad {
-            line: number,
-            cause: TOO_LONG,
-        }));
+        return Ok(stopped(screen, number, TOO_LONG));
     }
     if place.draft.is_some() {
-        return Ok(Some(Bad {
-            line: number,
-            cause: NOT_BUILT,
-        }));
+        return Ok(stopped(screen, number, NOT_BUILT));
     }
-    Ok(None)
+    Ok(Played { screen, bad: None })
+}
+
+/// A scenario that may not have a line.
+fn stopped(screen: Vec<u8>, line: u64, cause: u8) -> Played
+    ensures screen { result.screen.items ≡ screen.items }
+    ensures bad { result.bad ≡ Some (record { line = line; cause = cause }) }
+{
+    Played {
+        screen,
+        bad: Some(BadLine { line, cause }),
+    }
 }
 
 /// What a line says, which is sound.
 fn read_sound(alloc: Global, line: &[u8]) -> Result<Line, NoMemory>
-    ensures { IfOk result IsSoundLine }
+    ensures sound { IfOk result IsSoundLine }
+    ensures said { IfOk result (λ said. said ≡ line_of line.now) }
 {
     let said = read_line(alloc, line)?;
     Ok(said)
@@ -157,8 +197,21 @@ fn take_sound(alloc: Global, place: &mut Place, line: Line) -> Result<Option<Wor
     requires line { IsSoundLine line }
     ensures place { OnOk result (IsSoundPlace place.new) }
     ensures event { IfOk result (λ event. IfSome event IsSoundEvent) }
+    ensures happens { IfOk result (λ event. event ≡ completed place.old line) }
+    ensures behind { OnOk result (place.new ≡ behind place.old line) }
 {
-    take_line(alloc, place, line)
+    let event = take_line(alloc, place, line)?;
+    Ok(event)
+}
+
+/// Whether a line may stand at a place of the scenario that a stage plays.
+fn may_stand(stage: &Stage, place: &Place, line: &Line) -> bool
+    ensures fits { (older : List Line) → Behind older place.now stage.now → result ≡ may_stand older line.now }
+    ensures room { IsTrue result → IsTrue (has_room place.now line.now) }
+{
+    let last = stage.last_said(line);
+    let settled = stage.is_settled();
+    fits(place, last, settled, line)
 }
 
 /// Plays one line, and says whether the scenario may have it there.
@@ -170,14 +223,14 @@ fn play_line(
     screen: &mut Vec<u8>,
 ) -> Result<bool, NoMemory>
     requires { IsSoundPlace place.old }
-    ensures { OnOk result (IsSoundPlace place.new) }
+    ensures sound { OnOk result (IsSoundPlace place.new) }
+    ensures stands { IfOk result (λ stands. (older : List Line) → Behind older place.old stage.old → stands ≡ may_stand older (line_of line.now)) }
+    ensures stays { IfOk result (λ stands. stands ≡ false → screen.new.items ≡ screen.old.items) }
+    ensures plays { IfOk result (λ stands. stands ≡ true → (older : List Line) → length older < 2 ^ 62 → Behind older place.old stage.old
+        → Behind (line_of line.now ∷ older) place.new stage.new × (screen.new.items ≡ screen.old.items ++ printed_line older (line_of line.now))) }
 {
     let line = read_sound(alloc, line)?;
-    let last = match &line {
-        Line::Write { writer, .. } => stage.last_number(writer),
-        _ => 0,
-    };
-    if !fits(place, last, stage.is_settled(), &line) {
+    if !may_stand(stage, place, &line) {
         return Ok(false);
     }
     if let Some(event) = take_sound(alloc, place, line)? {

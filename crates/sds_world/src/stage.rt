@@ -12,10 +12,11 @@ ghost use Rattle.sds_spec.specs.Screen.{printed_by, send_line, deliver_line, ans
 ghost use Rattle.sds_spec.specs.World.{Message, Reply, World, history_of};
 ghost use Rattle.sds_laws.specs.Loads.{sent_at};
 ghost use Rattle.sds_node.specs.NewRows.{ArePairRows};
-ghost use Rattle.sds_world.specs.Settling.{last_by, settled_by};
+ghost use Rattle.sds_world.specs.Settling.{last_by, settled_by, last_said};
 ghost use Rattle.sds_world.specs.Playing.{NodePlays, NodesPlay, Waits, Stands, AreToMeet, MayPush, MayPlay, HasPlayed, TakesAs, peer_called};
 ghost use Rattle.sds_world.specs.Sound.{IsSoundEvent};
 
+use crate::Line;
 use crate::nodes::{
     Named, deliver_at, message_at, peer_in, place_in, put_tables_at, route_at, take_acks_at,
     write_at,
@@ -56,8 +57,18 @@ impl Stage {
         }
     }
 
+    /// The number of the last accepted write at the first node of the writer whose write begins with a line, or 0.
+    pub(crate) fn last_said(&self, line: &Line) -> u64
+        ensures { result ≡ last_said self.now.nodes.items line.now }
+    {
+        match line {
+            Line::Write { writer, .. } => self.last_number(writer),
+            _ => 0,
+        }
+    }
+
     /// The number of a writer's last accepted write at the first node, or 0.
-    pub(crate) fn last_number(&self, writer: &Txt) -> u64
+    fn last_number(&self, writer: &Txt) -> u64
         ensures { result ≡ last_by writer.now self.now.nodes.items }
     {
         match self.nodes.first() {
