@@ -1,3 +1,5 @@
+pub mod Always
+pub mod Answering
 pub mod Cuts
 pub mod Fronts
 pub mod Joined

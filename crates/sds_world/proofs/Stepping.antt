@@ -33,7 +33,7 @@ use Rattle.sds_world.specs.Sound.{IsSoundLine}
 use Rattle.sds_world.proofs.Shaping.{shaped_next, at_order, ready, and_left}
 
 -- NODES THAT HAVE MET
-pair_facts : (w : World) → IsPairWorld corp s1 w → PairFacts corp s1 w
+pub pair_facts : (w : World) → IsPairWorld corp s1 w → PairFacts corp s1 w
 pair_facts w pair = subst (λ (x : World). PairFacts corp s1 x) (sym pair.is) (stay_in_step corp s1 pair.events refl pair.may)
 
 four_cases : (Goal : Type 0) (n : ℕ) → n < 4 → (n ≡ 0 → Goal) → (n ≡ 1 → Goal) → (n ≡ 2 → Goal) → (n ≡ 3 → Goal) → Goal
@@ -43,14 +43,14 @@ four_cases Goal (suc (suc zero)) lt a b c d = c refl
 four_cases Goal (suc (suc (suc zero))) lt a b c d = d refl
 four_cases Goal (suc (suc (suc (suc n)))) lt a b c d = absurd (omega (arith, lt))
 
-by_four : (Goal : Type 0) (n : ℕ) (t : Bool) → (n == 4) ≡ t → n ≤ 4 → (n < 4 → Goal) → (n ≡ 4 → Goal) → Goal
+pub by_four : (Goal : Type 0) (n : ℕ) (t : Bool) → (n == 4) ≡ t → n ≤ 4 → (n < 4 → Goal) → (n ≡ 4 → Goal) → Goal
 by_four Goal n true is most early met = met (eqb-true n 4 is)
 by_four Goal n false is most early met = early (below n most is) where
   below : (k : ℕ) → k ≤ 4 → (k == 4) ≡ false → k < 4
   below k le off = grind (arith, nat_tests)
 
 -- what holds of the worlds before nodes have met
-early : (P : World → Type 0) (place : Place) (w : World) (count : ℕ) → Shaped place w count → place.openings < 4 → P empty_world → P one_node → P two_nodes → P w
+pub early : (P : World → Type 0) (place : Place) (w : World) (count : ℕ) → Shaped place w count → place.openings < 4 → P empty_world → P one_node → P two_nodes → P w
 early P place w count shaped lt none first both =
     four_cases (P w) place.openings lt
     (λ is. subst P (sym (shaped.at_first is)) none) (λ is. subst P (sym (shaped.at_second is)) first)

@@ -19,7 +19,7 @@ pub use forms::read_line;
 pub use line::{Line, Opening};
 pub use lines::split_line;
 pub use place::{Draft, Place, fits, take_line};
-pub use rehearsal::{WorldRefusal, rehearse, scenarios_stay_in_step};
+pub use rehearsal::{BadLine, WorldRefusal, rehearse, scenarios_stay_in_step};
 
 #[cfg(test)]
 mod tests;

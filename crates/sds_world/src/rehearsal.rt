@@ -1,6 +1,6 @@
-ghost use Rattle.std.specs.Prelude.{◌≡◌, ◌⊎◌, ◌<◌, ◌≤◌, ◌+◌, ◌^◌, ◌++◌, ◌∷◌, [], ℕ, List, true, false, IsSome, Some, Err, OnOk, IfOk, IfSome, IsTrue, length, take};
+ghost use Rattle.std.specs.Prelude.{◌≡◌, ◌≢◌, ◌⊎◌, ◌<◌, ◌≤◌, ◌+◌, ◌^◌, ◌++◌, ◌∷◌, [], ℕ, List, true, false, IsSome, Some, Err, OnOk, IfOk, IfSome, IsErrOf, IsTrue, length, take};
 ghost use Rattle.sds_outside.specs.Causes.{Rose};
-ghost use Rattle.sds_outside.specs.Told.{IsAtEnd};
+ghost use Rattle.sds_outside.specs.Told.{IsAtEnd, after_told};
 ghost use Rattle.sds_spec.specs.Happens.{world_after};
 ghost use Rattle.sds_spec.specs.InStep.{InStep};
 ghost use Rattle.sds_spec.specs.One.{one};
@@ -9,12 +9,12 @@ ghost use Rattle.sds_spec.specs.World.{empty_world};
 ghost use Rattle.sds_world.specs.Sound.{IsSoundLine, IsSoundPlace, IsSoundEvent};
 ghost use Rattle.sds_world.specs.Scenario.{line_of};
 ghost use Rattle.sds_world.specs.Looking.{behind, completed, has_room};
-ghost use Rattle.sds_world.specs.Played.{most_bytes, judged, may_stand, events_from, events_of, refusal_from, ending, Shows};
+ghost use Rattle.sds_world.specs.Played.{most_bytes, is_long, judged, may_stand, events_from, events_of, refusal_from, ending, Shows};
 ghost use Rattle.sds_world.specs.Shapes.{Behind, printed_line};
 
 use crate::stage::Stage;
 use crate::{Line, Place, fits, read_line, split_line, take_line};
-use sds_base::NoMemory;
+use sds_base::{Bytes, NoMemory};
 use sds_config::Config;
 use sds_outside::{MemKeeper, ReadStop, Sink, Source, read_all, write_all};
 use sds_spec::WorldEvent;
@@ -44,9 +44,9 @@ pub enum WorldRefusal {
 
 /// The line, from 1, at which a scenario is refused, and the cause.
 #[derive(Clone, Copy, Debug, PartialEq, Eq)]
-pub(crate) struct BadLine {
-    pub(crate) line: u64,
-    pub(crate) cause: u8,
+pub struct BadLine {
+    pub line: u64,
+    pub cause: u8,
 }
 
 /// Plays a scenario and writes what it prints, and hands back its nodes' keepers, of which there are none yet.
@@ -94,16 +94,57 @@ fn play<I: Source, W: Sink>(alloc: Global, input: &mut I, out: &mut W) -> Result
     ensures write { result ≡ Err WorldRefusal.WriteFault → Rose (W.faults out.old) (W.faults out.new) }
     ensures cause { (line cause : ℕ) → result ≡ Err (WorldRefusal.BadLine line cause) → (cause ≡ 5) ⊎ (cause ≡ 6) }
 {
-    let whole = match read_all(alloc, input, MOST_BYTES) {
-        Ok(whole) => whole,
+    let read = match read_front(alloc, input) {
+        Ok(read) => read,
         Err(ReadStop::Fault) => return Err(WorldRefusal::ReadFault),
         Err(ReadStop::NoMemory) => return Err(WorldRefusal::NoMemory),
     };
-    let text = first_bytes(whole.bytes.inner());
-    let played = match play_text(alloc, text, whole.is_over) {
+    let played = match play_text(alloc, &read.bytes, read.is_over) {
         Ok(played) => played,
         Err(NoMemory) => return Err(WorldRefusal::NoMemory),
     };
+    show(played, out)
+}
+
+/// The first 1 GiB of an input and one byte more, or all of it.
+#[derive(Drop)]
+struct Front {
+    bytes: Vec<u8>,
+    /// Whether the last of these bytes is one too many.
+    is_over: bool,
+}
+
+/// Reads an input to its end, or to the first byte too many.
+fn read_front<I: Source>(alloc: Global, input: &mut I) -> Result<Front, ReadStop>
+    ensures front { IfOk result (λ read. IfSome (I.left input.old) (λ text. (read.bytes.items ≡ take (most_bytes + 1) text) × (read.is_over ≡ is_long text))) }
+    ensures few { IfOk result (λ read. length read.bytes.items ≤ 2 ^ 30 + 1) }
+    ensures end { IfOk result (λ read. read.is_over ≡ false → IsAtEnd (I.left input.new)) }
+    ensures fault { IsErrOf result ReadStop.Fault → Rose (I.faults input.old) (I.faults input.new) }
+{
+    let whole = read_all(alloc, input, MOST_BYTES)?;
+    let is_over = whole.is_over;
+    Ok(Front {
+        bytes: cut_off(whole.bytes),
+        is_over,
+    })
+}
+
+/// The first 1 GiB of these bytes and one byte more, or all of them.
+fn cut_off(bytes: Bytes) -> Vec<u8>
+    ensures front { result.items ≡ take (most_bytes + 1) bytes }
+    ensures few { length result.items ≤ 2 ^ 30 + 1 }
+{
+    let mut bytes = bytes.into_inner();
+    bytes.truncate(MOST_BYTES + 1);
+    bytes
+}
+
+/// Writes the screen of what was played, and answers how it ended.
+fn show<W: Sink>(played: Played, out: &mut W) -> Result<(), WorldRefusal>
+    ensures ends { result ≢ Err WorldRefusal.WriteFault → (result ≡ ending played.bad) × (W.taken out.new ≡ after_told (W.taken out.old) played.screen.items) }
+    ensures part { (n : ℕ) × ((n ≤ length played.screen.items) × (W.taken out.new ≡ after_told (W.taken out.old) (take n played.screen.items))) }
+    ensures write { result ≡ Err WorldRefusal.WriteFault → Rose (W.faults out.old) (W.faults out.new) }
+{
     if write_all(out, &played.screen).is_err() {
         return Err(WorldRefusal::WriteFault);
     }
@@ -118,16 +159,6 @@ fn end(bad: Option<BadLine>) -> Result<(), WorldRefusal>
         Some(BadLine { line, cause }) => Err(WorldRefusal::BadLine { line, cause }),
         None => Ok(()),
     }
-}
-
-/// The first 1 GiB of a text and one byte more, or all of it.
-fn first_bytes(text: &[u8]) -> &[u8]
-    ensures { result.now ≡ take (most_bytes + 1) text.now }
-{
-    if text.len() > MOST_BYTES {
-        return &text[..MOST_BYTES + 1];
-    }
-    text
 }
 
 /// What a text prints, and the first line that it may not have.

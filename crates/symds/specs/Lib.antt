@@ -1,2 +1,3 @@
+pub mod Rehearsed
 pub mod Statuses
 pub mod Words

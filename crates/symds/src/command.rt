@@ -1,7 +1,13 @@
-ghost use Rattle.std.specs.Prelude.{◌≡◌, ◌⊎◌, ℕ, true, false, codes};
+ghost use Rattle.std.specs.Prelude.{◌≡◌, ◌⊎◌, ℕ, true, false, codes, IfSome, take};
 ghost use Rattle.std.specs.Str.{bytes_eq};
 ghost use Rattle.sds_outside.specs.Causes.{Rose};
 ghost use Rattle.sds_outside.specs.Told.{IsAtEnd};
+ghost use Rattle.sds_spec.specs.Happens.{world_after};
+ghost use Rattle.sds_spec.specs.InStep.{InStep};
+ghost use Rattle.sds_spec.specs.One.{one};
+ghost use Rattle.sds_spec.specs.World.{empty_world};
+ghost use Rattle.sds_world.specs.Played.{events_of};
+ghost use Rattle.symds.specs.Rehearsed.{status_by, Tells};
 ghost use Rattle.symds.specs.Words.{is_rehearse};
 
 use crate::status::Status;
@@ -25,6 +31,10 @@ pub fn run<K: Keeper, S: Source, I: Source, W: Sink, L: Link>(
     ensures keeper { result.1 ≡ keeper }
     ensures config { config.new ≡ config.old }
     ensures link { link.new ≡ link.old }
+    // What is answered and written is what the text of the input says.
+    ensures tells { is_rehearse words.now ≡ true → IfSome (I.left input.old) (λ text. Tells text result.0 (W.taken out.old) (W.taken out.new)) }
+    // After each event of the scenario the nodes are in step.
+    ensures in_step { IfSome (I.left input.old) (λ text. (n : ℕ) → InStep one (world_after one empty_world (take n (events_of text)))) }
     ensures done { result.0 ≡ Status.Done → IsAtEnd (I.left input.new) }
     ensures words { is_rehearse words.now ≡ false → result.0 ≡ Status.Words 0 }
     ensures words_only { (place : ℕ) → result.0 ≡ Status.Words place → (place ≡ 0) × (is_rehearse words.now ≡ false) }
@@ -39,7 +49,8 @@ pub fn run<K: Keeper, S: Source, I: Source, W: Sink, L: Link>(
     if !is_rehearse(words) {
         return (Status::Words { place: 0 }, keeper);
     }
-    (play(alloc, input, noise, out), keeper)
+    let status = play(alloc, input, noise, out);
+    (status, keeper)
 }
 
 /// Whether the words are those of the one command.
@@ -61,6 +72,7 @@ fn is_word(word: &Txt) -> bool
 
 /// Plays the scenario of the input.
 fn play<I: Source, W: Sink>(alloc: Global, input: &mut I, noise: [u8; 16], out: &mut W) -> Status
+    ensures tells { IfSome (I.left input.old) (λ text. Tells text result (W.taken out.old) (W.taken out.new)) }
     ensures done { result ≡ Status.Done → IsAtEnd (I.left input.new) }
     ensures words { (place : ℕ) → result ≡ Status.Words place → ⊥ }
     ensures read { result ≡ Status.ReadFault → Rose (I.faults input.old) (I.faults input.new) }
@@ -72,6 +84,13 @@ fn play<I: Source, W: Sink>(alloc: Global, input: &mut I, noise: [u8; 16], out: 
         return Status::NoMemory;
     };
     let (ending, _keepers) = rehearse(alloc, &config, input, noise, out);
+    status_by(ending)
+}
+
+/// The status of a rehearsal's ending.
+fn status_by(ending: Result<(), WorldRefusal>) -> Status
+    ensures { result ≡ status_by ending }
+{
     match ending {
         Ok(()) => Status::Done,
         Err(WorldRefusal::ReadFault) => Status::ReadFault,
