@@ -16,6 +16,9 @@ use Rattle.sds_value.specs.declared.kind.Value.TheVariants.{Null, Integer, Decim
 use Rattle.sds_value.specs.Values.{digits_value, without_sign, has_minus, is_integer_text, integer_value, is_in_range, integer_of, varchar_of, has_zero, fits, printed, value_of}
 use Rattle.sds_value.proofs.Characters.{left_true, right_true}
 use Rattle.sds_value.proofs.Integers.{own, range_mag}
+use Rattle.sds_value.proofs.Decimals.{decimal_chars}
+use Rattle.sds_value.proofs.Pointed.{decimal_back}
+use Rattle.sds_value.specs.Decimals.{decimal_text}
 
 digit_unsigned : (c : ℕ) → is_ascii_digit c ≡ true → (c == 43 || c == 45) ≡ false
 digit_unsigned c is = grind (arith, nat_tests)
@@ -61,7 +64,7 @@ varchar_back n text fit =
     let short : leb (length text) n ≡ true = right_true (not (has_zero text)) (leb (length text) n) fit in
     rw (whole, short) refl
 
-pub reads_back : (kind : Kind) (form : Binary) (value : Value) → fits kind value ≡ true → value_of kind form (chars (printed value)) ≡ Ok value
+pub reads_back : (kind : Kind) (form : Binary) (value : Value) → fits kind value ≡ true → value_of kind form (chars (printed kind form value)) ≡ Ok value
 reads_back Kinds.Integer form (Integer z) fit = rw (chars-IsAscii (signed_decimal z) (IsAscii-signed z (range_mag z fit))) (integer_back z fit)
 reads_back Kinds.Integer form Null fit = absurd (cc)
 reads_back Kinds.Integer form (Decimal z) fit = absurd (cc)
@@ -74,6 +77,11 @@ reads_back (Kinds.Varchar n) form (Integer z) fit = absurd (cc)
 reads_back (Kinds.Varchar n) form (Decimal z) fit = absurd (cc)
 reads_back (Kinds.Varchar n) form (Stamp day nano) fit = absurd (cc)
 reads_back (Kinds.Varchar n) form (Bin bytes) fit = absurd (cc)
-reads_back (Kinds.Decimal s) form value fit = absurd (cc)
+reads_back (Kinds.Decimal s) form (Decimal z) fit = decimal_chars s (decimal_text s z) (Decimal z) (decimal_back s z fit)
+reads_back (Kinds.Decimal s) form Null fit = absurd (cc)
+reads_back (Kinds.Decimal s) form (Integer z) fit = absurd (cc)
+reads_back (Kinds.Decimal s) form (Text text) fit = absurd (cc)
+reads_back (Kinds.Decimal s) form (Stamp day nano) fit = absurd (cc)
+reads_back (Kinds.Decimal s) form (Bin bytes) fit = absurd (cc)
 reads_back Kinds.Timestamp form value fit = absurd (cc)
 reads_back (Kinds.Varbinary n) form value fit = absurd (cc)

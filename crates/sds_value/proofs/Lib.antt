@@ -1,4 +1,9 @@
 pub mod Characters
+pub mod Weights
 pub mod Integers
+pub mod Decimals
+pub mod Padding
+pub mod Pointed
 pub mod Back
+pub mod Fitting
 pub mod Orders

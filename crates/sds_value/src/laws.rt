@@ -7,10 +7,9 @@ ghost use Rattle.sds_value.specs.declared.kind.Kind.{Kind};
 ghost use Rattle.sds_value.specs.declared.kind.Value.{Value};
 ghost use Rattle.sds_value.specs.Values.{fits, printed, value_of, value_order};
 
-/// The law that the printed text of a value reads as that value: of every number of INTEGER, and of every text of
-/// VARCHAR(n) that has at most n characters, none of them U+0000.
+/// The law that the printed text of a value within the limits of a kind that is built reads as that value.
 pub fn printed_reads_back()
-    ensures { (kind : Kind) (form : Binary) (value : Value) → IsTrue (fits kind value) → value_of kind form (chars (printed value)) ≡ Ok value }
+    ensures { (kind : Kind) (form : Binary) (value : Value) → IsTrue (fits kind value) → value_of kind form (chars (printed kind form value)) ≡ Ok value }
 {}
 
 /// The law that what a text reads as is a value of the kind, within its limits.

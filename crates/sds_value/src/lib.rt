@@ -4,8 +4,10 @@
 mod kind;
 mod laws;
 mod names;
+mod points;
 mod refusal;
 mod row;
+mod sums;
 mod table;
 #[cfg(test)]
 mod tests;

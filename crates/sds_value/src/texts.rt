@@ -4,6 +4,8 @@ ghost use Rattle.std.specs.Char.{is_ascii_digit};
 ghost use Rattle.std.specs.Str.{chars};
 ghost use Rattle.sds_value.specs.Values.{value_of, integer_of, varchar_of, is_integer_text, without_sign, has_zero, printed, is_built, is_of, form_place, value_order};
 
+use crate::points::{print_decimal, read_decimal};
+use crate::sums::{behind_sign, is_digits};
 use crate::{Binary, Kind, Txt, Value, ValueRefusal};
 use sds_base::NoMemory;
 use std::alloc::Global;
@@ -22,6 +24,7 @@ impl Value {
     {
         match kind {
             Kind::Integer => read_integer(text),
+            Kind::Decimal(scale) => read_decimal(text, scale),
             Kind::Varchar(most) => read_varchar(alloc, text, most),
             _ => Err(ValueRefusal::BadText),
         }
@@ -33,15 +36,21 @@ impl Value {
     pub fn put(&self, kind: Kind, form: Binary, out: &mut Vec<u8>) -> Result<(), NoMemory>
         requires built { IsTrue (is_built kind) }
         requires of { IsTrue (is_of kind self.now) }
-        ensures ok { OnOk result (out.new.items ≡ out.old.items ++ printed self.now) }
+        ensures ok { OnOk result (out.new.items ≡ out.old.items ++ printed kind form self.now) }
         ensures err { OnErr result (out.new.items ≡ out.old.items) }
     {
-        match self {
-            Value::Integer(number) => {
+        match (kind, self) {
+            (Kind::Integer, Value::Integer(number)) => {
                 let digits = number.to_string(*out.allocator())?;
                 out.extend_from_slice(digits.as_bytes())?;
             }
-            Value::Text(text) => out.extend_from_slice(text.as_str().as_bytes())?,
+            (Kind::Decimal(scale), Value::Decimal(units)) => {
+                let text = print_decimal(*out.allocator(), *units, scale)?;
+                out.extend_from_slice(&text)?;
+            }
+            (Kind::Varchar(_), Value::Text(text)) => {
+                out.extend_from_slice(text.as_str().as_bytes())?;
+            }
             _ => {}
         }
         Ok(())
@@ -93,26 +102,7 @@ fn read_integer(text: &str) -> Result<Value, ValueRefusal>
 fn is_integer(bytes: &[u8]) -> bool
     ensures { result ≡ is_integer_text bytes.now }
 {
-    let digits = behind_sign(bytes);
-    if digits.is_empty() {
-        return false;
-    }
-    all_digits(digits)
-}
-
-fn all_digits(bytes: &[u8]) -> bool
-    ensures { result ≡ list_all is_ascii_digit bytes.now }
-{
-    bytes.iter().all(|byte| byte.is_ascii_digit())
-}
-
-fn behind_sign(bytes: &[u8]) -> &[u8]
-    ensures { result.now ≡ without_sign bytes.now }
-{
-    match bytes {
-        [b'+' | b'-', digits @ ..] => digits,
-        digits => digits,
-    }
+    is_digits(behind_sign(bytes))
 }
 
 fn read_varchar(alloc: Global, text: &str, most: u16) -> Result<Value, ValueRefusal>
