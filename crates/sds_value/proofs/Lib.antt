@@ -4,6 +4,7 @@ pub mod Integers
 pub mod Decimals
 pub mod Padding
 pub mod Pointed
+pub mod Bytes
 pub mod Back
 pub mod Fitting
 pub mod Orders

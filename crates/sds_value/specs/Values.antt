@@ -1,7 +1,7 @@
 -- Which text reads as which value, the printed text of a value, and the order of values.
 -- A text that is read is given by its characters, a printed text by its bytes.
--- The kinds INTEGER, DECIMAL and VARCHAR are built. A last case stands for the others, and every call that reads or prints asks that its kind is built.
-use Rattle.std.specs.Prelude.{ℕ, Bool, true, false, not, ◌&&◌, ◌==◌, nat_le, if◌then◌else◌, List, [], ◌∷◌, length, ℤ, Result, Ok, Err}
+-- The kinds INTEGER, DECIMAL, VARCHAR and VARBINARY are built. A last case stands for the others, and every call that reads or prints asks that its kind is built.
+use Rattle.std.specs.Prelude.{ℕ, Bool, true, false, not, ◌&&◌, ◌==◌, nat_le, if◌then◌else◌, List, [], ◌∷◌, length, ℤ, Option, None, Some, Result, Ok, Err}
 use Rattle.std.specs.List.{list_any}
 use Rattle.std.specs.Fmt.{signed_decimal}
 use Rattle.std.specs.Str.{encode_utf8_all, all_scalars}
@@ -9,12 +9,14 @@ use Rattle.std.specs.declared.cmp.Ordering.{Ordering}
 use Rattle.std.specs.Ordering.{nat_cmp, int_cmp, ordering_then}
 use Rattle.std.specs.Cmp.Lexicographic.{slice_cmp}
 use Rattle.sds_value.specs.declared.kind.Binary.{Binary}
+use Rattle.sds_value.specs.declared.kind.Binary.TheVariants.{Base64, Hex, Plain}
 use Rattle.sds_value.specs.declared.kind.Kind.{Kind}
 use Rattle.sds_value.specs.declared.kind.Kind.TheVariants as Kinds
 use Rattle.sds_value.specs.declared.kind.Value.{Value}
 use Rattle.sds_value.specs.declared.kind.Value.TheVariants.{Null, Integer, Decimal, Text, Stamp, Bin}
 use Rattle.sds_value.specs.declared.refusal.ValueRefusal.{ValueRefusal}
 use Rattle.sds_value.specs.declared.refusal.ValueRefusal.TheVariants.{BadText, TooLong, OutOfRange}
+use Rattle.sds_value.specs.Binaries.{are_bytes, coded_bytes, coded_text}
 use Rattle.sds_value.specs.Decimals.{is_decimal_text, decimal_value, decimal_text}
 pub use Rattle.sds_value.specs.Digits.{digits_value, is_digit_text, without_sign, has_minus, signed, is_in_range}
 
@@ -23,6 +25,7 @@ abbrev pub is_built : Kind → Bool
 is_built Kinds.Integer = true
 is_built (Kinds.Decimal s) = true
 is_built (Kinds.Varchar n) = true
+is_built (Kinds.Varbinary n) = true
 is_built kind = false
 
 -- a sign or none, and then one decimal digit or more
@@ -49,12 +52,22 @@ has_zero text = list_any (λ c. c == 0) text
 abbrev pub varchar_of : ℕ → List ℕ → Result Value ValueRefusal
 varchar_of n text = if has_zero text then Err BadText else (if nat_le (length text) n then Ok (Text text) else Err TooLong)
 
+-- bytes under VARBINARY(n)
+abbrev pub binary_of : ℕ → Option (List ℕ) → Result Value ValueRefusal
+binary_of n None = Err BadText
+binary_of n (Some bytes) = if nat_le (length bytes) n then Ok (Bin bytes) else Err TooLong
+
+-- what a text reads as under VARBINARY(n)
+abbrev pub varbinary_of : ℕ → Binary → List ℕ → Result Value ValueRefusal
+varbinary_of n form text = binary_of n (coded_bytes form (encode_utf8_all text))
+
 -- what a text reads as, or why it doesn't, under a kind that is built
 -- The last case says nothing of the other kinds: they are not built yet, and every call asks that its kind is built.
 abbrev pub value_of : Kind → Binary → List ℕ → Result Value ValueRefusal
 value_of Kinds.Integer form text = integer_of text
 value_of (Kinds.Decimal s) form text = decimal_of s text
 value_of (Kinds.Varchar n) form text = varchar_of n text
+value_of (Kinds.Varbinary n) form text = varbinary_of n form text
 value_of kind form text = Err BadText
 
 -- the value is one of this kind's form, whatever its size; null is of none
@@ -71,6 +84,7 @@ abbrev pub fits : Kind → Value → Bool
 fits Kinds.Integer (Integer z) = is_in_range z
 fits (Kinds.Decimal s) (Decimal z) = is_in_range z
 fits (Kinds.Varchar n) (Text text) = all_scalars text && (not (has_zero text) && nat_le (length text) n)
+fits (Kinds.Varbinary n) (Bin bytes) = are_bytes bytes && nat_le (length bytes) n
 fits kind value = false
 
 -- the printed text of a value of a kind that is built: of a number `-` where it is negative and its digits without leading zeros, of a text the text itself in UTF-8
@@ -78,7 +92,13 @@ abbrev pub printed : Kind → Binary → Value → List ℕ
 printed Kinds.Integer form (Integer z) = signed_decimal z
 printed (Kinds.Decimal s) form (Decimal z) = decimal_text s z
 printed (Kinds.Varchar n) form (Text text) = encode_utf8_all text
+printed (Kinds.Varbinary n) form (Bin bytes) = coded_text form bytes
 printed kind form value = []
+
+-- the form writes values of the kind: the plain form writes no bytes
+abbrev pub is_written : Kind → Binary → Bool
+is_written (Kinds.Varbinary n) Plain = false
+is_written kind form = true
 
 -- null first, then a place for each form of value
 abbrev pub form_place : Value → ℕ

@@ -1,6 +1,7 @@
 //! Kinds of values, fields of lines, tables' columns, rows of documents and peers.
 #![tactic(auto)]
 
+mod coded;
 mod kind;
 mod laws;
 mod names;

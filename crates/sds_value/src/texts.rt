@@ -4,6 +4,7 @@ ghost use Rattle.std.specs.Char.{is_ascii_digit};
 ghost use Rattle.std.specs.Str.{chars};
 ghost use Rattle.sds_value.specs.Values.{value_of, integer_of, varchar_of, is_integer_text, without_sign, has_zero, printed, is_built, is_of, form_place, value_order};
 
+use crate::coded::{encode, read_binary};
 use crate::points::{print_decimal, read_decimal};
 use crate::sums::{behind_sign, is_digits};
 use crate::{Binary, Kind, Txt, Value, ValueRefusal};
@@ -26,6 +27,7 @@ impl Value {
             Kind::Integer => read_integer(text),
             Kind::Decimal(scale) => read_decimal(text, scale),
             Kind::Varchar(most) => read_varchar(alloc, text, most),
+            Kind::Varbinary(most) => read_binary(alloc, form, text, most),
             _ => Err(ValueRefusal::BadText),
         }
     }
@@ -50,6 +52,10 @@ impl Value {
             }
             (Kind::Varchar(_), Value::Text(text)) => {
                 out.extend_from_slice(text.as_str().as_bytes())?;
+            }
+            (Kind::Varbinary(_), Value::Bin(bytes)) => {
+                let text = encode(*out.allocator(), form, bytes.inner())?;
+                out.extend_from_slice(text.as_bytes())?;
             }
             _ => {}
         }
