@@ -17,6 +17,9 @@ use Rattle.sds_value.specs.Values.{digits_value, without_sign, has_minus, is_int
 use Rattle.sds_value.proofs.Characters.{left_true, right_true}
 use Rattle.sds_value.proofs.Integers.{own, range_mag}
 use Rattle.sds_value.proofs.Decimals.{decimal_chars}
+use Rattle.sds_value.proofs.Moments.{stamp_chars}
+use Rattle.sds_value.proofs.Stamped.{stamp_back}
+use Rattle.sds_value.specs.Stamps.{stamp_text}
 use Rattle.sds_value.proofs.Bytes.{binary_back}
 use Rattle.sds_value.specs.Binaries.{are_bytes}
 use Rattle.sds_value.specs.declared.kind.Binary.TheVariants.{Base64, Hex, Plain}
@@ -91,7 +94,12 @@ reads_back (Kinds.Decimal s) form (Integer z) written fit = absurd (cc)
 reads_back (Kinds.Decimal s) form (Text text) written fit = absurd (cc)
 reads_back (Kinds.Decimal s) form (Stamp day nano) written fit = absurd (cc)
 reads_back (Kinds.Decimal s) form (Bin bytes) written fit = absurd (cc)
-reads_back Kinds.Timestamp form value written fit = absurd (cc)
+reads_back Kinds.Timestamp form (Stamp day nano) written fit = stamp_chars (stamp_text day nano) (Stamp day nano) (stamp_back day nano fit)
+reads_back Kinds.Timestamp form Null written fit = absurd (cc)
+reads_back Kinds.Timestamp form (Integer z) written fit = absurd (cc)
+reads_back Kinds.Timestamp form (Decimal z) written fit = absurd (cc)
+reads_back Kinds.Timestamp form (Text text) written fit = absurd (cc)
+reads_back Kinds.Timestamp form (Bin bytes) written fit = absurd (cc)
 reads_back (Kinds.Varbinary n) form (Bin bytes) written fit = binary_back n form bytes (left_true (are_bytes bytes) (leb (length bytes) n) fit) (right_true (are_bytes bytes) (leb (length bytes) n) fit) (plain_not n form written)
 reads_back (Kinds.Varbinary n) form Null written fit = absurd (cc)
 reads_back (Kinds.Varbinary n) form (Integer z) written fit = absurd (cc)

@@ -10,6 +10,7 @@ use Rattle.sds_value.specs.declared.kind.Kind.TheVariants as Kinds
 use Rattle.sds_value.specs.declared.kind.Value.{Value}
 use Rattle.sds_value.specs.declared.kind.Value.TheVariants.{Integer, Decimal, Text}
 use Rattle.sds_value.specs.Values.{is_in_range, is_integer_text, integer_value, has_zero, fits, value_of}
+use Rattle.sds_value.proofs.Lasting.{stamp_fits}
 use Rattle.sds_value.proofs.Bytes.{binary_fits}
 use Rattle.sds_value.specs.Decimals.{is_decimal_text, decimal_value}
 
@@ -32,5 +33,5 @@ pub value_fits : (kind : Kind) (form : Binary) (text : List ℕ) (value : Value)
 value_fits Kinds.Integer form text value scalars reads = number_fits Kinds.Integer Integer (integer_value text) value (λ inside is. is) (is_integer_text text) (is_in_range (integer_value text)) refl reads
 value_fits (Kinds.Decimal s) form text value scalars reads = number_fits (Kinds.Decimal s) Decimal (decimal_value s text) value (λ inside is. is) (is_decimal_text s text) (is_in_range (decimal_value s text)) refl reads
 value_fits (Kinds.Varchar n) form text value scalars reads = text_fits n text value scalars (has_zero text) (leb (length text) n) refl refl reads
-value_fits Kinds.Timestamp form text value scalars reads = absurd (cc)
+value_fits Kinds.Timestamp form text value scalars reads = stamp_fits text value reads
 value_fits (Kinds.Varbinary n) form text value scalars reads = binary_fits n form text value reads

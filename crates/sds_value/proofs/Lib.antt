@@ -5,6 +5,10 @@ pub mod Decimals
 pub mod Padding
 pub mod Pointed
 pub mod Bytes
+pub mod Days
+pub mod Moments
+pub mod Stamped
+pub mod Lasting
 pub mod Back
 pub mod Fitting
 pub mod Orders

@@ -1,11 +1,11 @@
 -- Digits with zeros in front.
-use Rattle.std.proofs.Common.{◌≡◌, ℕ, zero, suc, ◌+◌, ◌-◌, ◌*◌, ◌^◌, ◌<◌, ◌≤◌, Bool, true, false, ◌&&◌, List, [], ◌∷◌, ◌++◌, length, replicate, refl, sym, ap, ◌∙◌, arith, length-append, ltb}
+use Rattle.std.proofs.Common.{◌≡◌, ℕ, zero, suc, ◌+◌, ◌-◌, ◌*◌, ◌^◌, ◌<◌, ◌≤◌, Bool, true, false, ◌&&◌, List, [], ◌∷◌, ◌++◌, length, replicate, refl, sym, ap, ◌∙◌, arith, length-append, append-nil, ltb, ◌==◌}
 use Rattle.std.proofs.lemmas.List.{length-replicate}
 use Rattle.std.proofs.lemmas.Bool.Decides.{nat_tests}
 use Rattle.std.proofs.lemmas.Fmt.{digits_decimal, digits_value-decimal, decimal_nonempty, length-decimal-le}
 use Rattle.std.specs.List.{list_all}
 use Rattle.std.specs.Char.{is_ascii_digit}
-use Rattle.std.specs.Fmt.{decimal}
+use Rattle.std.specs.Fmt.{decimal, styled_decimal, format_spec, padded_integral, char_count}
 use Rattle.sds_value.specs.Digits.{digits_value, is_digit_text, padded}
 use Rattle.sds_value.proofs.Characters.{left_true, right_true}
 use Rattle.sds_value.proofs.Integers.{own}
@@ -40,3 +40,10 @@ some_test n some = grind (arith, nat_tests)
 
 pub digit_text : (xs : List ℕ) → 0 < length xs → list_all is_ascii_digit xs ≡ true → is_digit_text xs ≡ true
 digit_text xs some digits = rw (some_test (length xs) some, digits) refl
+
+-- what a format writes that asks for zeros in front
+pub styled_is : (width n : ℕ) → (width == 0) ≡ false → styled_decimal (format_spec 32 0 4 width (2 ^ 64 - 1)) n ≡ padded width n
+unfolding padded_integral char_count
+styled_is width n some =
+    let none : width - length (decimal n) - 0 - 0 ≡ width - length (decimal n) = omega arith in
+    rw (some, none, append-nil (decimal n)) refl

@@ -1,11 +1,15 @@
 -- Sums of digits times powers of ten, digit by digit from the left.
-use Rattle.std.proofs.Common.{◌≡◌, ℕ, ◌+◌, ◌-◌, ◌*◌, ◌^◌, ◌<◌, ◌≤◌, zero, suc, List, [], ◌∷◌, ◌++◌, length, drop, take, replicate, get_or, refl, sym, ap, ◌∙◌, arith, add-one, length-append}
+use Rattle.std.proofs.Common.{◌≡◌, ℕ, ◌+◌, ◌-◌, ◌*◌, ◌^◌, ◌<◌, ◌≤◌, zero, suc, List, [], ◌∷◌, ◌++◌, length, drop, take, replicate, get_or, refl, sym, ap, ◌∙◌, true, arith, add-one, length-append}
 use Rattle.std.proofs.lemmas.List.{length-replicate, length-take-le}
 use Rattle.std.proofs.Math.Nat.{pow-suc, one-le-pow, pow-le-pow_right}
-use Rattle.std.proofs.lemmas.Nat.{pow-add}
+use Rattle.std.proofs.lemmas.Nat.{pow-add, mul-le}
+use Rattle.std.proofs.lemmas.Bool.Decides.{nat_tests}
+use Rattle.std.specs.List.{list_all}
+use Rattle.std.specs.Char.{is_ascii_digit}
+use Rattle.sds_value.proofs.Characters.{left_true, right_true}
 use Rattle.std.proofs.lemmas.List.{drop_more, at_drop_all, take-append-le, take-replicate}
 use Rattle.std.proofs.Math.Seq.{take-append-add}
-use Rattle.std.specs.Prelude.{Option}
+use Rattle.std.specs.Prelude.{Option, Some, None, IsSome}
 use Rattle.std.specs.Option.{SomeIff}
 use Rattle.sds_value.specs.Digits.{digits_value, filled}
 
@@ -74,6 +78,22 @@ digits_value-append (x ∷ xs) ys =
     joined : (d p v q w : ℕ) → d * (p * q) + (v * q + w) ≡ (d * p + v) * q + w
     joined d p v q w = omega arith
 
+-- so many digits write a number below that power of ten
+pub digits_bound : (ds : List ℕ) → list_all is_ascii_digit ds ≡ true → digits_value ds < 10 ^ length ds
+digits_bound [] are = omega arith
+digits_bound (d ∷ ds) are =
+    let rest = digits_bound ds (right_true (is_ascii_digit d) (list_all is_ascii_digit ds) are) in
+    let low = digit_low d (left_true (is_ascii_digit d) (list_all is_ascii_digit ds) are) in
+    rw (pow-suc 10 (length ds)) (below (d - 48) (digits_value ds) (10 ^ length ds) low rest)
+  where
+    digit_low : (d : ℕ) → is_ascii_digit d ≡ true → d - 48 ≤ 9
+    digit_low d is = grind (arith, nat_tests)
+    below : (d v p : ℕ) → d ≤ 9 → v < p → d * p + v < p * 10
+    below d v p low rest = let most = mul_le_nine d p low in omega (arith, most, rest)
+      where
+        mul_le_nine : (d p : ℕ) → d ≤ 9 → d * p ≤ 9 * p
+        mul_le_nine d p low = mul-le d p 9 p low (omega arith)
+
 pub digits_value-zeros : (n : ℕ) → digits_value (replicate n 48) ≡ 0
 digits_value-zeros zero = refl
 digits_value-zeros (suc n) = let rest = digits_value-zeros n in omega (arith, rest)
@@ -139,3 +159,35 @@ pub units_over : (whole : List ℕ) (count : ℕ) (f : List ℕ) → (0 * 10 ^ l
 units_over whole count f over small =
     let low = at_most (digits_value whole) count (digits_value (filled count f)) in
     over (omega (arith, low, small, digits_value-filled whole count f))
+
+pub some_of : {A : Type 0} (r : Option A) (P : Type 0) (v : A) → SomeIff r P v → P → IsSome r
+some_of None P v answer holds = absurd (answer holds)
+some_of (Some x) P v answer holds = refl
+
+pub take_digits : (n : ℕ) (ds : List ℕ) → list_all is_ascii_digit ds ≡ true → list_all is_ascii_digit (take n ds) ≡ true
+take_digits zero ds are = refl
+take_digits (suc n) [] are = refl
+take_digits (suc n) (d ∷ ds) are = rw (left_true (is_ascii_digit d) (list_all is_ascii_digit ds) are) (take_digits n ds (right_true (is_ascii_digit d) (list_all is_ascii_digit ds) are))
+
+zeros_are : (n : ℕ) → list_all is_ascii_digit (replicate n 48) ≡ true
+zeros_are zero = refl
+zeros_are (suc n) = zeros_are n
+
+append_are : (xs ys : List ℕ) → list_all is_ascii_digit xs ≡ true → list_all is_ascii_digit ys ≡ true → list_all is_ascii_digit (xs ++ ys) ≡ true
+append_are [] ys first second = second
+append_are (x ∷ xs) ys first second = rw (left_true (is_ascii_digit x) (list_all is_ascii_digit xs) first) (append_are xs ys (right_true (is_ascii_digit x) (list_all is_ascii_digit xs) first) second)
+
+-- a fraction of digits is filled up with digits
+pub filled_bound : (count : ℕ) (f : List ℕ) → list_all is_ascii_digit f ≡ true → digits_value (filled count f) < 10 ^ count
+filled_bound count f are =
+    let low = digits_bound (filled count f) (take_digits count (f ++ replicate count 48) (append_are f (replicate count 48) are (zeros_are count))) in
+    rw (length-filled count f) at low
+
+pub some_value : {A : Type 0} (r : Option A) (P : Type 0) (v x : A) → SomeIff r P v → r ≡ Some x → x ≡ v
+some_value None P v x answer is = absurd (cc)
+some_value (Some y) P v x answer is = let same : y ≡ x = cc in sym same ∙ answer.1
+
+pub few_digits : (ds : List ℕ) → length ds ≤ 9 → list_all is_ascii_digit ds ≡ true → 0 * 10 ^ length ds + digits_value ds < 2 ^ 64
+few_digits ds few are =
+    let power : 10 ^ length ds ≤ 10 ^ 9 = pow-le-pow_right (omega arith) few in
+    omega (arith, power, digits_bound ds are)

@@ -7,8 +7,8 @@ ghost use Rattle.sds_value.specs.declared.kind.Kind.{Kind};
 ghost use Rattle.sds_value.specs.declared.kind.Value.{Value};
 ghost use Rattle.sds_value.specs.Values.{fits, is_written, printed, value_of, value_order};
 
-/// The law that the printed text of a value within the limits of a kind that is built reads as that
-/// value, but for bytes in the plain form, which are not written.
+/// The law that the printed text of a value within the limits of its kind reads as that value, but for bytes in the plain
+/// form, which are not written.
 pub fn printed_reads_back()
     ensures { (kind : Kind) (form : Binary) (value : Value) → IsTrue (is_written kind form) → IsTrue (fits kind value) → value_of kind form (chars (printed kind form value)) ≡ Ok value }
 {}

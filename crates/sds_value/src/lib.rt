@@ -8,6 +8,7 @@ mod names;
 mod points;
 mod refusal;
 mod row;
+mod stamps;
 mod sums;
 mod table;
 #[cfg(test)]

@@ -1,5 +1,5 @@
 // Numbers from their decimal digits, and decimal digits of numbers.
-ghost use Rattle.std.specs.Prelude.{◌≡◌, ◌+◌, ◌-◌, ◌*◌, ◌^◌, ◌<◌, ◌++◌, IsTrue, IfOk, length};
+ghost use Rattle.std.specs.Prelude.{◌≡◌, ◌+◌, ◌-◌, ◌*◌, ◌^◌, ◌<◌, ◌≤◌, ◌++◌, true, IsTrue, IfOk, length};
 ghost use Rattle.std.specs.Option.{SomeIff};
 ghost use Rattle.std.specs.List.{list_all};
 ghost use Rattle.std.specs.Char.{is_ascii_digit};
@@ -62,6 +62,16 @@ pub(crate) fn add_digits(number: u64, digits: &[u8]) -> Option<u64>
         sum = next;
     }
     Some(sum)
+}
+
+/// The number that at most 9 digits write.
+pub(crate) fn sum_digits(digits: &[u8]) -> u64
+    requires few { length digits.now ≤ 9 }
+    requires digits { list_all is_ascii_digit digits.now ≡ true }
+    ensures value { result ≡ digits_value digits.now }
+    ensures bound { result < 10 ^ length digits.now }
+{
+    add_digits(0, digits).unwrap()
 }
 
 /// The number with so many zeros behind its own digits, and none where that is 2^64 or more.
