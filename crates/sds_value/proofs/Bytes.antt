@@ -1,5 +1,5 @@
 -- Bytes as base64 and as hexadecimal text.
-use Rattle.std.proofs.Common.{◌≡◌, ℕ, zero, suc, ◌<◌, ◌≤◌, Bool, true, false, ◌&&◌, List, [], ◌∷◌, length, refl, sym, ap, subst, ◌⊎◌, inl, inr, ◌∙◌, arith, leb, ltb, Ok, Err, Result, Option, Some, None}
+use Rattle.std.proofs.Common.{◌≡◌, ℕ, zero, suc, ◌<◌, ◌≤◌, Bool, true, false, List, [], ◌∷◌, length, refl, sym, ap, subst, ◌⊎◌, inl, inr, ◌∙◌, arith, leb, ltb, Ok, Err, Result, Option, Some, None}
 use Rattle.std.proofs.lemmas.Bool.Decides.{nat_tests}
 use Rattle.std.proofs.lemmas.Str.{encodes-chars, IsUtf8-from_ascii}
 use Rattle.std.specs.Prelude.{slice_index}
@@ -24,8 +24,7 @@ use Rattle.sds_value.specs.declared.kind.Binary.{Binary}
 use Rattle.sds_value.specs.declared.kind.Binary.TheVariants.{Base64, Hex, Plain}
 use Rattle.sds_value.specs.declared.kind.Value.{Value}
 use Rattle.sds_value.specs.declared.kind.Value.TheVariants.{Bin}
-use Rattle.sds_value.specs.declared.refusal.ValueRefusal.{ValueRefusal}
-use Rattle.sds_value.specs.declared.refusal.ValueRefusal.TheVariants.{BadText, TooLong}
+use Rattle.sds_value.specs.declared.refusal.ValueRefusal.TheVariants.{TooLong}
 use Rattle.sds_value.specs.Binaries.{are_bytes, in_bytes, coded_bytes, coded_text}
 use Rattle.sds_value.specs.Values.{binary_of, varbinary_of, fits}
 

@@ -1,17 +1,16 @@
 -- The year, the month and the day of a day number.
-use Rattle.std.proofs.Common.{◌≡◌, ◌⊎◌, inl, inr, ◌&&◌, leb, ltb, ℕ, zero, suc, ◌+◌, ◌-◌, ◌^◌, ◌<◌, ◌≤◌, Bool, true, false, refl, sym, ap, subst, ◌∙◌, arith, add-one, rules}
-use Rattle.std.specs.Prelude.{ℤ, pos, negsuc, neg_ℤ, int_le, if◌then◌else◌, unsigned_abs, ◌+ℤ◌, ◌-ℤ◌, ◌≤ℤ◌, ◌<ℤ◌}
+use Rattle.std.proofs.Common.{◌≡◌, inl, inr, ◌&&◌, leb, ltb, ℕ, zero, suc, ◌+◌, ◌^◌, ◌<◌, ◌≤◌, Bool, true, false, refl, sym, ap, subst, ◌∙◌, arith, add-one}
+use Rattle.std.specs.Prelude.{ℤ, pos, negsuc, neg_ℤ, int_le, if◌then◌else◌, unsigned_abs, ◌+ℤ◌, ◌≤ℤ◌, ◌<ℤ◌}
 use Rattle.std.proofs.lemmas.Bool.{cases_order}
 use Rattle.std.proofs.lemmas.Bool.Decides.{nat_tests}
 use Rattle.sds_value.proofs.Characters.{left_true, right_true}
 use Rattle.jiff_core.specs.declared.civil.date.Date.{Date}
-use Rattle.jiff_core.specs.Calendar.{IsDate, IsEpochDay, days_from_civil, days_in_month, days_in_year, day_count, IsCivilDate, IsYear}
+use Rattle.jiff_core.specs.Calendar.{IsDate, IsEpochDay, days_from_civil, days_in_month}
 use Rattle.jiff_core.specs.Date.{epoch_day}
 use Rattle.jiff_core.proofs.SignedLemmas.{signed_arith, back_small}
-use Rattle.jiff_core.proofs.CalendarLemmas.{days_from_civil-day_count, day_count-next_year, day_count-next_month, day_count-last_of_year, day_count-day, days_in_month_bounds, day_count_bounds}
+use Rattle.jiff_core.proofs.CalendarLemmas.{days_from_civil-day_count, days_in_month_bounds, day_count_bounds}
 use Rattle.jiff_core.proofs.DateLemmas.{days_from_civil-max, days_from_civil-next_year, days_from_civil-next_month, days_from_civil-day, epoch_day_injective}
 use Rattle.sds_value.specs.Stamps.{is_date, is_stamp, last_begun, year_of, month_of, day_of}
-use borrow.Author.Differences.{up, down}
 use mir.Val.{to_z, of_z}
 use mir.Syntax.{w16}
 use Rattle.std.proofs.Common.{w32, w64, Result, Ok, Err, IfOk}
@@ -77,25 +76,25 @@ month_is day first = last_is (λ (month : ℕ). days_from_civil (pos (year_of da
 
 year_end : (day : ℤ) (y : ℕ) → IsLast (λ (year : ℕ). days_from_civil (pos year) 1 1) day 9999 y → day ≤ℤ days_from_civil (pos 9999) 12 31 → day ≤ℤ days_from_civil (pos y) 12 31
 year_end day y last end = elim (cases_order y 9999) [
-    | inr (inl lt) ↦
-        let next = last.next lt in
-        let low : neg_ℤ (pos 10000) ≤ℤ pos y = omega (arith, signed_arith) in
-        let same : pos (y + 1) ≡ pos y +ℤ pos 1 = omega (arith, signed_arith) in
-        let year = days_from_civil-next_year (pos y) (pos (y + 1)) low same in
-        omega (arith, signed_arith, next, year)
-    | inl same ↦ rw same end
-    | inr (inr gt) ↦ absurd (omega (arith, last.high))
-  ]
+  | inr (inl lt) ↦
+      let next = last.next lt in
+      let low : neg_ℤ (pos 10000) ≤ℤ pos y = omega (arith, signed_arith) in
+      let same : pos (y + 1) ≡ pos y +ℤ pos 1 = omega (arith, signed_arith) in
+      let year = days_from_civil-next_year (pos y) (pos (y + 1)) low same in
+      omega (arith, signed_arith, next, year)
+  | inl same ↦ rw same end
+  | inr (inr gt) ↦ absurd (omega (arith, last.high))
+]
 
 month_end : (day : ℤ) (y m : ℕ) → IsLast (λ (month : ℕ). days_from_civil (pos y) month 1) day 12 m → day ≤ℤ days_from_civil (pos y) 12 31 → day ≤ℤ days_from_civil (pos y) m (days_in_month (pos y) m)
 month_end day y m last end = elim (cases_order m 12) [
-    | inr (inl lt) ↦
-        let next = last.next lt in
-        let month = days_from_civil-next_month (pos y) m (days_in_month (pos y) m) last.low refl in
-        omega (arith, signed_arith, next, month)
-    | inl same ↦ rw same end
-    | inr (inr gt) ↦ absurd (omega (arith, last.high))
-  ]
+  | inr (inl lt) ↦
+      let next = last.next lt in
+      let month = days_from_civil-next_month (pos y) m (days_in_month (pos y) m) last.low refl in
+      omega (arith, signed_arith, next, month)
+  | inl same ↦ rw same end
+  | inr (inr gt) ↦ absurd (omega (arith, last.high))
+]
 
 number_is : (day : ℤ) → days_from_civil (pos (year_of day)) (month_of day) 1 ≤ℤ day → IsLast (λ (number : ℕ). days_from_civil (pos (year_of day)) (month_of day) number) day 31 (day_of day)
 unfolding day_of
@@ -109,13 +108,13 @@ day_end day y m d last end some most =
     let whole = days_from_civil-day (pos y) m d (days_in_month (pos y) m) last.low some in
     let high : d ≤ days_in_month (pos y) m = omega (arith, signed_arith, begun, end, whole) in
     elim (cases_order d 31) [
-    | inr (inl lt) ↦
-        let next = last.next lt in
-        let more = days_from_civil-day (pos y) m (d + 1) d (omega arith) last.low in
-        (high, omega (arith, signed_arith, begun, next, more))
-    | inl same ↦ (high, omega (arith, signed_arith, begun, end, whole))
-    | inr (inr gt) ↦ absurd (omega (arith, last.high))
-  ]
+      | inr (inl lt) ↦
+          let next = last.next lt in
+          let more = days_from_civil-day (pos y) m (d + 1) d (omega arith) last.low in
+          (high, omega (arith, signed_arith, begun, next, more))
+      | inl same ↦ (high, omega (arith, signed_arith, begun, end, whole))
+      | inr (inr gt) ↦ absurd (omega (arith, last.high))
+    ]
 
 within : (day : ℤ) (y m d : ℕ) → 1 ≤ y → y ≤ 9999 → 1 ≤ m → m ≤ 12 → IsLast (λ (number : ℕ). days_from_civil (pos y) m number) day 31 d → day ≤ℤ days_from_civil (pos y) m (days_in_month (pos y) m) → IsDay day y m d
 within day y m d year_low year_high month_low month_high last end =
@@ -137,7 +136,7 @@ day_is day first end =
     let year = year_is day first in
     let month = month_is day year.begun in
     within day (year_of day) (month_of day) (day_of day) year.low year.high month.low month.high (number_is day month.begun)
-        (month_end day (year_of day) (month_of day) month (year_end day (year_of day) year end))
+    (month_end day (year_of day) (month_of day) month (year_end day (year_of day) year end))
 
 made : (day : ℤ) (y m d : ℕ) → IsDay day y m d → Date
 made day y m d is = record { year = pos y; month = m; day = d; year_in = (omega (arith, signed_arith), omega (arith, signed_arith, is.year_high)); month_in = (is.month_low, is.month_high); day_in = (is.day_low, is.day_high) }
@@ -161,12 +160,16 @@ date_missing y m d small missing = by (is_date y m d) refl
       where
         one : (leb 1 m && (leb m 12 && (leb 1 d && leb d long))) ≡ true → 1 ≤ m
         one is = grind (arith, nat_tests)
+
         two : (leb 1 m && (leb m 12 && (leb 1 d && leb d long))) ≡ true → m ≤ 12
         two is = grind (arith, nat_tests)
+
         three : (leb 1 m && (leb m 12 && (leb 1 d && leb d long))) ≡ true → 1 ≤ d
         three is = grind (arith, nat_tests)
+
         four : (leb 1 m && (leb m 12 && (leb 1 d && leb d long))) ≡ true → d ≤ long
         four is = grind (arith, nat_tests)
+
     by : (b : Bool) → is_date y m d ≡ b → b ≡ false
     by false is = refl
     by true is =

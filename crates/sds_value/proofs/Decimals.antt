@@ -1,5 +1,5 @@
 -- Texts of numbers with a point.
-use Rattle.std.proofs.Common.{◌≡◌, ℕ, zero, suc, ◌+◌, ◌<◌, ◌≤◌, Bool, true, false, not, ◌&&◌, ◌||◌, ◌==◌, List, [], ◌∷◌, ◌++◌, length, take, take_all, drop, get_or, refl, sym, ap, subst, ◌∙◌, arith, ltb, Result, Ok, Err}
+use Rattle.std.proofs.Common.{◌≡◌, ℕ, zero, suc, ◌<◌, ◌≤◌, Bool, true, false, not, ◌&&◌, ◌||◌, ◌==◌, List, [], ◌∷◌, length, take_all, drop, refl, sym, subst, arith, ltb, Result, Ok, Err}
 use Rattle.std.proofs.lemmas.Bool.Decides.{nat_tests}
 use Rattle.std.proofs.lemmas.List.Sums.{split_at_first, passes_at_first}
 use Rattle.std.proofs.lemmas.Str.{IsAscii-append}
@@ -11,8 +11,8 @@ use Rattle.sds_value.specs.declared.kind.Value.{Value}
 use Rattle.sds_value.specs.declared.refusal.ValueRefusal.{ValueRefusal}
 use Rattle.sds_value.specs.declared.kind.Value.TheVariants.{Decimal}
 use Rattle.sds_value.specs.declared.refusal.ValueRefusal.TheVariants.{OutOfRange}
-use Rattle.sds_value.specs.Digits.{is_digit_text, without_sign, is_in_range}
-use Rattle.sds_value.specs.Decimals.{is_point, has_point, whole_part, fraction_part, is_fraction, is_decimal_text, decimal_value}
+use Rattle.sds_value.specs.Digits.{is_digit_text, is_in_range}
+use Rattle.sds_value.specs.Decimals.{is_point, has_point, is_fraction, is_decimal_text, decimal_value}
 use Rattle.sds_value.specs.Values.{decimal_of}
 use Rattle.sds_value.proofs.Characters.{left_true, right_true, all_small, digit_small, same_of, back_of}
 use Rattle.sds_value.proofs.Integers.{sign_small}
@@ -40,7 +40,7 @@ unsigned_by : (s : ℕ) (u : List ℕ) (b : Bool) → has_point u ≡ b → (is_
 unsigned_by s u true point is =
     let fraction = right_true (is_digit_text (before_first is_point u)) (is_fraction s (after_first is_point u)) is in
     pointed_ascii u (inside point) (digits_ascii (before_first is_point u) (left_true (is_digit_text (before_first is_point u)) (is_fraction s (after_first is_point u)) is))
-        (digits_ascii (after_first is_point u) (left_true (is_digit_text (after_first is_point u)) (list_all (λ (c : ℕ). c == 48) (drop s (after_first is_point u))) fraction))
+    (digits_ascii (after_first is_point u) (left_true (is_digit_text (after_first is_point u)) (list_all (λ (c : ℕ). c == 48) (drop s (after_first is_point u))) fraction))
   where
     inside : has_point u ≡ true → position_or_len is_point u < length u
     inside is = grind (arith, nat_tests)

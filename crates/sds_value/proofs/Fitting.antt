@@ -1,8 +1,7 @@
 -- What a text reads as lies within the limits of its kind.
-use Rattle.std.proofs.Common.{◌≡◌, ℕ, Bool, true, false, not, ◌&&◌, List, length, refl, arith, leb, Ok, Err, Result}
+use Rattle.std.proofs.Common.{◌≡◌, ℕ, Bool, true, false, List, length, refl, leb, Ok, Err}
 use Rattle.std.specs.Prelude.{ℤ, if◌then◌else◌}
 use Rattle.std.specs.Str.{all_scalars}
-use Rattle.sds_value.specs.declared.refusal.ValueRefusal.{ValueRefusal}
 use Rattle.sds_value.specs.declared.refusal.ValueRefusal.TheVariants.{BadText, TooLong, OutOfRange}
 use Rattle.sds_value.specs.declared.kind.Binary.{Binary}
 use Rattle.sds_value.specs.declared.kind.Kind.{Kind}

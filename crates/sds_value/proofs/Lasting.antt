@@ -1,11 +1,9 @@
 -- A day and a time that a text reads as lie in the years 1 to 9999.
-use Rattle.std.proofs.Common.{◌≡◌, inl, inr, ℕ, ◌+◌, ◌*◌, ◌^◌, ◌<◌, ◌≤◌, Bool, true, false, ◌&&◌, ◌||◌, ◌==◌, List, take, drop, refl, sym, ap, ◌∙◌, arith, leb, ltb, Ok, Err, Result, IfOk, length}
+use Rattle.std.proofs.Common.{◌≡◌, inl, inr, ℕ, ◌^◌, ◌<◌, ◌≤◌, Bool, true, false, ◌&&◌, List, take, drop, refl, sym, ap, arith, leb, ltb, Ok, Err, Result, IfOk, length}
 use Rattle.std.specs.Prelude.{ℤ, pos, ◌≤ℤ◌, int_le, if◌then◌else◌}
 use Rattle.std.proofs.lemmas.Bool.{cases_order}
 use Rattle.std.proofs.lemmas.Bool.Decides.{nat_tests}
 use Rattle.std.proofs.lemmas.List.{length-take-le}
-use Rattle.std.specs.List.{list_all}
-use Rattle.std.specs.Char.{is_ascii_digit}
 use Rattle.jiff_core.specs.Calendar.{days_from_civil, days_in_month, IsCivilDate}
 use Rattle.jiff_core.proofs.SignedLemmas.{signed_arith}
 use Rattle.jiff_core.proofs.CalendarLemmas.{days_from_civil-day_count, day_count-day_of_year, day_of_year_bound, day_count-last_of_year, day_count-later_year}
@@ -28,10 +26,13 @@ date_parts y m d long is = (one is, two is, three is, four is)
   where
     one : (leb 1 m && (leb m 12 && (leb 1 d && leb d long))) ≡ true → 1 ≤ m
     one is = grind (arith, nat_tests)
+
     two : (leb 1 m && (leb m 12 && (leb 1 d && leb d long))) ≡ true → m ≤ 12
     two is = grind (arith, nat_tests)
+
     three : (leb 1 m && (leb m 12 && (leb 1 d && leb d long))) ≡ true → 1 ≤ d
     three is = grind (arith, nat_tests)
+
     four : (leb 1 m && (leb m 12 && (leb 1 d && leb d long))) ≡ true → d ≤ long
     four is = grind (arith, nat_tests)
 
@@ -40,8 +41,10 @@ time_parts h n s is = (one is, two is, three is)
   where
     one : is_time h n s ≡ true → h < 24
     one is = grind (arith, nat_tests)
+
     two : is_time h n s ≡ true → n < 60
     two is = grind (arith, nat_tests)
+
     three : is_time h n s ≡ true → s < 60
     three is = grind (arith, nat_tests)
 
@@ -73,23 +76,23 @@ to_last y m d civil low =
 
 first_year : (y : ℕ) → 1 ≤ y → days_from_civil (pos 1) 1 1 ≤ℤ days_from_civil (pos y) 1 1
 first_year y low = elim (cases_order 1 y) [
-    | inr (inl lt) ↦
-        let later = day_count-later_year (pos 1) (pos y) (omega (arith, signed_arith)) (omega (arith, signed_arith, lt)) in
-        omega (arith, signed_arith, days_from_civil-day_count, later)
-    | inl same ↦ rw (← same) (omega (arith, signed_arith))
-    | inr (inr gt) ↦ absurd (omega (arith, gt, low))
-  ]
+  | inr (inl lt) ↦
+      let later = day_count-later_year (pos 1) (pos y) (omega (arith, signed_arith)) (omega (arith, signed_arith, lt)) in
+      omega (arith, signed_arith, days_from_civil-day_count, later)
+  | inl same ↦ rw (← same) (omega (arith, signed_arith))
+  | inr (inr gt) ↦ absurd (omega (arith, gt, low))
+]
 
 last_year : (y : ℕ) → y ≤ 9999 → days_from_civil (pos y) 12 31 ≤ℤ days_from_civil (pos 9999) 12 31
 last_year y high = elim (cases_order y 9999) [
-    | inr (inl lt) ↦
-        let later = day_count-later_year (pos y) (pos 9999) (omega (arith, signed_arith)) (omega (arith, signed_arith, lt)) in
-        let here = day_count-last_of_year (pos y) in
-        let there = from_first 9999 12 31 (omega arith) in
-        omega (arith, signed_arith, days_from_civil-day_count, later, here, there)
-    | inl same ↦ rw same (omega (arith, signed_arith))
-    | inr (inr gt) ↦ absurd (omega (arith, gt, high))
-  ]
+  | inr (inl lt) ↦
+      let later = day_count-later_year (pos y) (pos 9999) (omega (arith, signed_arith)) (omega (arith, signed_arith, lt)) in
+      let here = day_count-last_of_year (pos y) in
+      let there = from_first 9999 12 31 (omega arith) in
+      omega (arith, signed_arith, days_from_civil-day_count, later, here, there)
+  | inl same ↦ rw same (omega (arith, signed_arith))
+  | inr (inr gt) ↦ absurd (omega (arith, gt, high))
+]
 
 parts_fit : (y m d h n s f : ℕ) → 1 ≤ y → y ≤ 9999 → is_date y m d ≡ true → is_time h n s ≡ true → f < 1000000000 → is_stamp (days_from_civil (pos y) m d) (nano_of h n s f) ≡ true
 parts_fit y m d h n s f low high date time fraction =
@@ -119,8 +122,8 @@ stamp_by text value true true is some reads =
     let both = right_true (has_stamp_form text) (is_date (year_in text) (month_in text) (day_in text) && is_time (hour_in text) (minute_in text) (second_in text)) is in
     let year = year_bound text form in
     rw (← same) (parts_fit (year_in text) (month_in text) (day_in text) (hour_in text) (minute_in text) (second_in text) (digits_value (filled 9 (drop 20 text))) (low_test (year_in text) some) (omega (arith, year))
-        (left_true (is_date (year_in text) (month_in text) (day_in text)) (is_time (hour_in text) (minute_in text) (second_in text)) both) (right_true (is_date (year_in text) (month_in text) (day_in text)) (is_time (hour_in text) (minute_in text) (second_in text)) both)
-        (filled_bound 9 (drop 20 text) (fraction_digits text form)))
+    (left_true (is_date (year_in text) (month_in text) (day_in text)) (is_time (hour_in text) (minute_in text) (second_in text)) both) (right_true (is_date (year_in text) (month_in text) (day_in text)) (is_time (hour_in text) (minute_in text) (second_in text)) both)
+    (filled_bound 9 (drop 20 text) (fraction_digits text form)))
 stamp_by text value true false is some reads = absurd (cc)
 stamp_by text value false low is some reads = absurd (cc)
 

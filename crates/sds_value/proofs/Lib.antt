@@ -11,4 +11,5 @@ pub mod Stamped
 pub mod Lasting
 pub mod Back
 pub mod Fitting
+pub mod Longer
 pub mod Orders

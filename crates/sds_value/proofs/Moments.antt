@@ -1,6 +1,6 @@
 -- Texts of days and times of day: their digits, and that their form is ASCII.
-use Rattle.std.proofs.Common.{◌≡◌, ℕ, zero, suc, ◌+◌, ◌-◌, ◌*◌, ◌^◌, ◌/◌, ◌%◌, ◌≢◌, eq-eqb, ◌<◌, ◌≤◌, Bool, true, false, ◌&&◌, ◌||◌, ◌==◌, List, [], ◌∷◌, ◌++◌, length, take, drop, replicate, refl, sym, ap, subst, ◌∙◌, arith, ltb, leb, length-drop, codes, Ok, Err, Result}
-use Rattle.std.specs.Prelude.{ℤ, pos, if◌then◌else◌}
+use Rattle.std.proofs.Common.{◌≡◌, ℕ, zero, suc, ◌+◌, ◌/◌, ◌%◌, ◌≢◌, eq-eqb, ◌<◌, ◌≤◌, Bool, true, false, ◌&&◌, ◌||◌, ◌==◌, List, [], ◌∷◌, length, take, drop, replicate, refl, subst, arith, ltb, leb, length-drop, codes, Ok, Err, Result}
+use Rattle.std.specs.Prelude.{if◌then◌else◌}
 use Rattle.std.proofs.lemmas.Bool.Decides.{nat_tests}
 use Rattle.std.proofs.lemmas.List.{drop-drop, drop_all, drop_more, take-append-drop}
 use Rattle.std.proofs.lemmas.Str.{IsAscii-append}
@@ -11,7 +11,7 @@ use Rattle.sds_value.specs.declared.kind.Value.{Value}
 use Rattle.sds_value.specs.declared.kind.Value.TheVariants.{Stamp}
 use Rattle.sds_value.specs.declared.refusal.ValueRefusal.{ValueRefusal}
 use Rattle.sds_value.specs.declared.refusal.ValueRefusal.TheVariants.{OutOfRange}
-use Rattle.sds_value.specs.Digits.{digits_value, is_digit_text, padded}
+use Rattle.sds_value.specs.Digits.{is_digit_text, padded}
 use Rattle.sds_value.specs.Stamps.{is_like, begins_like, is_subsecond, has_stamp_form, is_stamp_text, is_date, is_time, year_in, month_in, day_in, hour_in, minute_in, second_in, day_value, nano_value, subsecond_text}
 use Rattle.sds_value.specs.Values.{stamp_of}
 use Rattle.sds_value.proofs.Characters.{left_true, right_true, all_small, digit_small, same_of, back_of}
@@ -56,7 +56,7 @@ pub form_digits : (text : List ℕ) (i n : ℕ) → has_stamp_form text ≡ true
     → (list_all is_ascii_digit (take n (drop i text)) ≡ true) × (i + n ≤ length text)
 form_digits text i n is some first second =
     either (begins_like spaced text) (begins_like with_t text) (left_true (begins_like spaced text || begins_like with_t text) (is_subsecond (drop 19 text)) is)
-        (λ here. digits_from spaced text i n some here first) (λ here. digits_from with_t text i n some here second)
+    (λ here. digits_from spaced text i n some here first) (λ here. digits_from with_t text i n some here second)
 
 subsecond_digits : (rest : List ℕ) → is_subsecond rest ≡ true → list_all is_ascii_digit (drop 1 rest) ≡ true
 subsecond_digits [] is = refl
@@ -96,7 +96,7 @@ small_test c is = grind (arith, nat_tests)
 form_ascii : (text : List ℕ) → has_stamp_form text ≡ true → IsAscii text
 form_ascii text is =
     let front : IsAscii (take 19 text) = either (begins_like spaced text) (begins_like with_t text) (left_true (begins_like spaced text || begins_like with_t text) (is_subsecond (drop 19 text)) is)
-        (λ here. begins_ascii spaced text (all_small (λ (c : ℕ). ltb c 128) small_test spaced refl) here) (λ here. begins_ascii with_t text (all_small (λ (c : ℕ). ltb c 128) small_test with_t refl) here) in
+    (λ here. begins_ascii spaced text (all_small (λ (c : ℕ). ltb c 128) small_test spaced refl) here) (λ here. begins_ascii with_t text (all_small (λ (c : ℕ). ltb c 128) small_test with_t refl) here) in
     let rest = subsecond_ascii (drop 19 text) (right_true (begins_like spaced text || begins_like with_t text) (is_subsecond (drop 19 text)) is) in
     subst IsAscii (take-append-drop 19 text) (IsAscii-append (take 19 text) (drop 19 text) front rest)
 

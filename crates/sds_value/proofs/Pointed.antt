@@ -1,9 +1,9 @@
 -- The printed text of a number of units reads as that number.
-use Rattle.std.proofs.Common.{◌≡◌, ℕ, zero, suc, ◌+◌, ◌-◌, ◌^◌, ◌<◌, ◌≤◌, Bool, true, false, not, ◌&&◌, ◌||◌, ◌==◌, List, [], ◌∷◌, ◌++◌, length, take, take_all, drop, refl, sym, ap, ◌∙◌, arith, ltb, length-append, append-nil, length-drop, Ok}
+use Rattle.std.proofs.Common.{◌≡◌, ℕ, zero, suc, ◌+◌, ◌-◌, ◌^◌, ◌<◌, ◌≤◌, Bool, true, false, not, ◌||◌, ◌==◌, List, [], ◌∷◌, ◌++◌, length, take, take_all, drop, refl, ap, ◌∙◌, arith, ltb, append-nil, length-drop, Ok}
 use Rattle.std.proofs.lemmas.Bool.Decides.{nat_tests}
 use Rattle.std.proofs.lemmas.List.{length-take-le, take-append-drop, drop_all}
 use Rattle.std.proofs.Math.Seq.{take-append_seam, drop-append-add}
-use Rattle.std.specs.Prelude.{ℤ, pos, negsuc, unsigned_abs}
+use Rattle.std.specs.Prelude.{ℤ, pos, negsuc}
 use Rattle.std.specs.Int.{is_negative}
 use Rattle.std.specs.List.{list_all, position_or_len, before_first, after_first}
 use Rattle.std.specs.Char.{is_ascii_digit}
@@ -78,7 +78,7 @@ pointed s w f some above len digits fraction =
     let cut : filled s f ≡ f = filled_long s f (omega arith) ∙ take_all s f (omega arith) in
     let rest : drop s f ≡ [] = drop_all s f (omega arith) in
     same_units s (w ++ 46 ∷ f) w f (digits_value (w ++ f)) (plain w (46 ∷ f) some digits) (positive w (46 ∷ f) some digits) before after (digit_text w some digits)
-        (right_or (not (has_point (w ++ 46 ∷ f))) (is_fraction s f) (rw (digit_text f (omega arith) fraction, rest) refl)) (ap (λ (ds : List ℕ). digits_value (w ++ ds)) cut)
+    (right_or (not (has_point (w ++ 46 ∷ f))) (is_fraction s f) (rw (digit_text f (omega arith) fraction, rest) refl)) (ap (λ (ds : List ℕ). digits_value (w ++ ds)) cut)
 
 no_point : (n : ℕ) → not (ltb n n) ≡ true
 no_point n = grind (arith, nat_tests)
@@ -90,7 +90,7 @@ whole_units d some digits =
     let before : before_first is_point d ≡ d = ap (λ (n : ℕ). take n d) at ∙ take_all (length d) d (omega arith) in
     let after : after_first is_point d ≡ [] = ap (λ (n : ℕ). drop (n + 1) d) at ∙ drop_all (length d + 1) d (omega arith) in
     same_units 0 d d [] (digits_value d) (rw end at (plain d [] some digits)) (rw end at (positive d [] some digits)) before after (digit_text d some digits)
-        (left_or (not (has_point d)) (is_fraction 0 []) (rw at (no_point (length d)))) (ap digits_value end)
+    (left_or (not (has_point d)) (is_fraction 0 []) (rw at (no_point (length d)))) (ap digits_value end)
 
 above_zero : (k : ℕ) → (suc k == 0) ≡ false
 above_zero k = grind (arith, nat_tests)
@@ -101,7 +101,7 @@ pad_units (suc k) m d long digits value =
     let parts = take-append-drop (length d - suc k) d in
     let both : list_all is_ascii_digit (take (length d - suc k) d ++ drop (length d - suc k) d) ≡ true = rw parts digits in
     let units = pointed (suc k) (take (length d - suc k) d) (drop (length d - suc k) d) (omega (arith, length-take-le (length d - suc k) d (omega arith))) (omega arith) (omega (arith, length-drop (length d - suc k) d))
-        (all_left is_ascii_digit (take (length d - suc k) d) (drop (length d - suc k) d) both) (all_right is_ascii_digit (take (length d - suc k) d) (drop (length d - suc k) d) both) in
+    (all_left is_ascii_digit (take (length d - suc k) d) (drop (length d - suc k) d) both) (all_right is_ascii_digit (take (length d - suc k) d) (drop (length d - suc k) d) both) in
     let same : digits_value (take (length d - suc k) d ++ drop (length d - suc k) d) ≡ m = ap digits_value parts ∙ value in
     rw (above_zero k) (rw same at units)
 

@@ -1,6 +1,6 @@
 -- The printed text of a day and a nanosecond of the day reads as them.
-use Rattle.std.proofs.Common.{◌≡◌, ℕ, zero, suc, ◌+◌, ◌-◌, ◌*◌, ◌/◌, ◌%◌, ◌^◌, ◌<◌, ◌≤◌, Bool, true, false, ◌&&◌, ◌==◌, List, [], ◌∷◌, ◌++◌, length, refl, sym, ap, ◌∙◌, arith, ltb, leb, Ok}
-use Rattle.std.specs.Prelude.{ℤ, pos, ◌≤ℤ◌, int_le, if◌then◌else◌}
+use Rattle.std.proofs.Common.{◌≡◌, ℕ, ◌+◌, ◌-◌, ◌*◌, ◌/◌, ◌%◌, ◌^◌, ◌<◌, ◌≤◌, Bool, true, false, ◌&&◌, ◌==◌, List, [], ◌∷◌, ◌++◌, length, refl, ap, ◌∙◌, arith, ltb, leb, Ok}
+use Rattle.std.specs.Prelude.{ℤ, pos, int_le, if◌then◌else◌}
 use Rattle.std.proofs.lemmas.Bool.{eqb-true}
 use Rattle.std.proofs.lemmas.Bool.Decides.{nat_tests}
 use Rattle.std.specs.List.{list_all}
@@ -8,8 +8,8 @@ use Rattle.std.specs.Char.{is_ascii_digit}
 use Rattle.jiff_core.specs.Calendar.{days_from_civil, days_in_month}
 use Rattle.jiff_core.proofs.CalendarLemmas.{days_in_month_bounds}
 use Rattle.sds_value.specs.declared.kind.Value.TheVariants.{Stamp}
-use Rattle.sds_value.specs.Digits.{digits_value, is_digit_text, padded, filled}
-use Rattle.sds_value.specs.Stamps.{is_subsecond, is_date, is_time, nano_of, is_stamp, year_of, month_of, day_of, date_text, time_text, subsecond_text, stamp_text}
+use Rattle.sds_value.specs.Digits.{digits_value, padded, filled}
+use Rattle.sds_value.specs.Stamps.{is_subsecond, is_date, is_time, nano_of, is_stamp, year_of, month_of, day_of, subsecond_text, stamp_text}
 use Rattle.sds_value.specs.Values.{stamp_of}
 use Rattle.sds_value.proofs.Characters.{left_true, right_true}
 use Rattle.sds_value.proofs.Padding.{padded_digits, padded_value, padded_length, digit_text}
@@ -48,40 +48,40 @@ writes : (width n : ℕ) → n < 2 ^ 64 → Writes (padded width n) n
 writes width n small = record { digits = padded_digits width n small; value = padded_value width n small }
 
 module _ (y m d h n s : ℕ) (f : List ℕ) (fraction : is_subsecond (46 ∷ f) ≡ true) (date : is_date y m d ≡ true) (time : is_time h n s ≡ true) (low : leb 1 y ≡ true) where
-    abbrev Reads : List ℕ → List ℕ → List ℕ → List ℕ → List ℕ → List ℕ → Type 0
-    Reads yt mt dt ht nt st =
-        Writes yt y → Writes mt m → Writes dt d → Writes ht h → Writes nt n → Writes st s
-        → stamp_of ((yt ++ (45 ∷ (mt ++ (45 ∷ dt)))) ++ (32 ∷ ((ht ++ (58 ∷ (nt ++ (58 ∷ st)))) ++ (46 ∷ f))))
-          ≡ Ok (Stamp (days_from_civil (pos y) m d) (nano_of h n s (digits_value (filled 9 f))))
+  abbrev Reads : List ℕ → List ℕ → List ℕ → List ℕ → List ℕ → List ℕ → Type 0
+  Reads yt mt dt ht nt st =
+      Writes yt y → Writes mt m → Writes dt d → Writes ht h → Writes nt n → Writes st s
+      → stamp_of ((yt ++ (45 ∷ (mt ++ (45 ∷ dt)))) ++ (32 ∷ ((ht ++ (58 ∷ (nt ++ (58 ∷ st)))) ++ (46 ∷ f))))
+      ≡ Ok (Stamp (days_from_civil (pos y) m d) (nano_of h n s (digits_value (filled 9 f))))
 
-    read_digits : (y1 y2 y3 y4 m1 m2 d1 d2 h1 h2 n1 n2 s1 s2 : ℕ) → Reads (y1 ∷ y2 ∷ y3 ∷ y4 ∷ []) (m1 ∷ m2 ∷ []) (d1 ∷ d2 ∷ []) (h1 ∷ h2 ∷ []) (n1 ∷ n2 ∷ []) (s1 ∷ s2 ∷ [])
-    read_digits y1 y2 y3 y4 m1 m2 d1 d2 h1 h2 n1 n2 s1 s2 wy wm wd wh wn ws =
-        let yd = all_four y1 y2 y3 y4 wy.digits in
-        let md = all_two m1 m2 wm.digits in
-        let dd = all_two d1 d2 wd.digits in
-        let hd = all_two h1 h2 wh.digits in
-        let nd = all_two n1 n2 wn.digits in
-        let sd = all_two s1 s2 ws.digits in
-        rw (yd.0, yd.1, yd.2, yd.3, md.0, md.1, dd.0, dd.1, hd.0, hd.1, nd.0, nd.1, sd.0, sd.1, fraction, wy.value, wm.value, wd.value, wh.value, wn.value, ws.value, date, time, low) refl
+  read_digits : (y1 y2 y3 y4 m1 m2 d1 d2 h1 h2 n1 n2 s1 s2 : ℕ) → Reads (y1 ∷ y2 ∷ y3 ∷ y4 ∷ []) (m1 ∷ m2 ∷ []) (d1 ∷ d2 ∷ []) (h1 ∷ h2 ∷ []) (n1 ∷ n2 ∷ []) (s1 ∷ s2 ∷ [])
+  read_digits y1 y2 y3 y4 m1 m2 d1 d2 h1 h2 n1 n2 s1 s2 wy wm wd wh wn ws =
+      let yd = all_four y1 y2 y3 y4 wy.digits in
+      let md = all_two m1 m2 wm.digits in
+      let dd = all_two d1 d2 wd.digits in
+      let hd = all_two h1 h2 wh.digits in
+      let nd = all_two n1 n2 wn.digits in
+      let sd = all_two s1 s2 ws.digits in
+      rw (yd.0, yd.1, yd.2, yd.3, md.0, md.1, dd.0, dd.1, hd.0, hd.1, nd.0, nd.1, sd.0, sd.1, fraction, wy.value, wm.value, wd.value, wh.value, wn.value, ws.value, date, time, low) refl
 
-    read_lists : (yt mt dt ht nt st : List ℕ) → length yt ≡ 4 → length mt ≡ 2 → length dt ≡ 2 → length ht ≡ 2 → length nt ≡ 2 → length st ≡ 2 → Reads yt mt dt ht nt st
-    read_lists yt mt dt ht nt st ly lm ld lh ln ls =
-        with_four (λ (yt : List ℕ). Reads yt mt dt ht nt st) (λ y1 y2 y3 y4.
-        with_two (λ (mt : List ℕ). Reads (y1 ∷ y2 ∷ y3 ∷ y4 ∷ []) mt dt ht nt st) (λ m1 m2.
-        with_two (λ (dt : List ℕ). Reads (y1 ∷ y2 ∷ y3 ∷ y4 ∷ []) (m1 ∷ m2 ∷ []) dt ht nt st) (λ d1 d2.
-        with_two (λ (ht : List ℕ). Reads (y1 ∷ y2 ∷ y3 ∷ y4 ∷ []) (m1 ∷ m2 ∷ []) (d1 ∷ d2 ∷ []) ht nt st) (λ h1 h2.
-        with_two (λ (nt : List ℕ). Reads (y1 ∷ y2 ∷ y3 ∷ y4 ∷ []) (m1 ∷ m2 ∷ []) (d1 ∷ d2 ∷ []) (h1 ∷ h2 ∷ []) nt st) (λ n1 n2.
-        with_two (λ (st : List ℕ). Reads (y1 ∷ y2 ∷ y3 ∷ y4 ∷ []) (m1 ∷ m2 ∷ []) (d1 ∷ d2 ∷ []) (h1 ∷ h2 ∷ []) (n1 ∷ n2 ∷ []) st) (λ s1 s2.
-        read_digits y1 y2 y3 y4 m1 m2 d1 d2 h1 h2 n1 n2 s1 s2) st ls) nt ln) ht lh) dt ld) mt lm) yt ly
+  read_lists : (yt mt dt ht nt st : List ℕ) → length yt ≡ 4 → length mt ≡ 2 → length dt ≡ 2 → length ht ≡ 2 → length nt ≡ 2 → length st ≡ 2 → Reads yt mt dt ht nt st
+  read_lists yt mt dt ht nt st ly lm ld lh ln ls =
+      with_four (λ (yt : List ℕ). Reads yt mt dt ht nt st) (λ y1 y2 y3 y4.
+      with_two (λ (mt : List ℕ). Reads (y1 ∷ y2 ∷ y3 ∷ y4 ∷ []) mt dt ht nt st) (λ m1 m2.
+      with_two (λ (dt : List ℕ). Reads (y1 ∷ y2 ∷ y3 ∷ y4 ∷ []) (m1 ∷ m2 ∷ []) dt ht nt st) (λ d1 d2.
+      with_two (λ (ht : List ℕ). Reads (y1 ∷ y2 ∷ y3 ∷ y4 ∷ []) (m1 ∷ m2 ∷ []) (d1 ∷ d2 ∷ []) ht nt st) (λ h1 h2.
+      with_two (λ (nt : List ℕ). Reads (y1 ∷ y2 ∷ y3 ∷ y4 ∷ []) (m1 ∷ m2 ∷ []) (d1 ∷ d2 ∷ []) (h1 ∷ h2 ∷ []) nt st) (λ n1 n2.
+      with_two (λ (st : List ℕ). Reads (y1 ∷ y2 ∷ y3 ∷ y4 ∷ []) (m1 ∷ m2 ∷ []) (d1 ∷ d2 ∷ []) (h1 ∷ h2 ∷ []) (n1 ∷ n2 ∷ []) st) (λ s1 s2.
+      read_digits y1 y2 y3 y4 m1 m2 d1 d2 h1 h2 n1 n2 s1 s2) st ls) nt ln) ht lh) dt ld) mt lm) yt ly
 
-    read_numbers : y < 10000 → m < 100 → d < 100 → h < 100 → n < 100 → s < 100
-        → stamp_of ((padded 4 y ++ (45 ∷ (padded 2 m ++ (45 ∷ padded 2 d)))) ++ (32 ∷ ((padded 2 h ++ (58 ∷ (padded 2 n ++ (58 ∷ padded 2 s)))) ++ (46 ∷ f))))
-          ≡ Ok (Stamp (days_from_civil (pos y) m d) (nano_of h n s (digits_value (filled 9 f))))
-    read_numbers ly lm ld lh ln ls =
-        read_lists (padded 4 y) (padded 2 m) (padded 2 d) (padded 2 h) (padded 2 n) (padded 2 s)
-            (padded_length 4 y (omega arith) ly (omega arith)) (padded_length 2 m (omega arith) lm (omega arith)) (padded_length 2 d (omega arith) ld (omega arith))
-            (padded_length 2 h (omega arith) lh (omega arith)) (padded_length 2 n (omega arith) ln (omega arith)) (padded_length 2 s (omega arith) ls (omega arith))
-            (writes 4 y (omega arith)) (writes 2 m (omega arith)) (writes 2 d (omega arith)) (writes 2 h (omega arith)) (writes 2 n (omega arith)) (writes 2 s (omega arith))
+  read_numbers : y < 10000 → m < 100 → d < 100 → h < 100 → n < 100 → s < 100
+      → stamp_of ((padded 4 y ++ (45 ∷ (padded 2 m ++ (45 ∷ padded 2 d)))) ++ (32 ∷ ((padded 2 h ++ (58 ∷ (padded 2 n ++ (58 ∷ padded 2 s)))) ++ (46 ∷ f))))
+      ≡ Ok (Stamp (days_from_civil (pos y) m d) (nano_of h n s (digits_value (filled 9 f))))
+  read_numbers ly lm ld lh ln ls =
+      read_lists (padded 4 y) (padded 2 m) (padded 2 d) (padded 2 h) (padded 2 n) (padded 2 s)
+      (padded_length 4 y (omega arith) ly (omega arith)) (padded_length 2 m (omega arith) lm (omega arith)) (padded_length 2 d (omega arith) ld (omega arith))
+      (padded_length 2 h (omega arith) lh (omega arith)) (padded_length 2 n (omega arith) ln (omega arith)) (padded_length 2 s (omega arith) ls (omega arith))
+      (writes 4 y (omega arith)) (writes 2 m (omega arith)) (writes 2 d (omega arith)) (writes 2 h (omega arith)) (writes 2 n (omega arith)) (writes 2 s (omega arith))
 
 date_test : (y m d : ℕ) → 1 ≤ m → m ≤ 12 → 1 ≤ d → d ≤ days_in_month (pos y) m → is_date y m d ≡ true
 date_test y m d month_low month_high day_low day_high = by (days_in_month (pos y) m) day_high
@@ -149,6 +149,6 @@ stamp_back day nano is =
     let long = days_in_month_bounds (pos (year_of day)) (month_of day) in
     let fraction = subsecond_by nano (nano % 1000000 == 0) (nano % 1000 == 0) refl refl in
     let reads = read_numbers (year_of day) (month_of day) (day_of day) (nano / 3600000000000) (nano / 60000000000 % 60) (nano / 1000000000 % 60) (subsecond_text nano) fraction.form
-        (date_test (year_of day) (month_of day) (day_of day) date.month_low date.month_high date.day_low date.day_high) (time_test (nano / 3600000000000) (nano / 60000000000 % 60) (nano / 1000000000 % 60) (omega arith) (omega arith) (omega arith)) (year_test (year_of day) date.year_low)
-        (omega (arith, date.year_high)) (omega (arith, date.month_high)) (omega (arith, date.day_high, long.0)) (omega arith) (omega arith) (omega arith) in
+    (date_test (year_of day) (month_of day) (day_of day) date.month_low date.month_high date.day_low date.day_high) (time_test (nano / 3600000000000) (nano / 60000000000 % 60) (nano / 1000000000 % 60) (omega arith) (omega arith) (omega arith)) (year_test (year_of day) date.year_low)
+    (omega (arith, date.year_high)) (omega (arith, date.month_high)) (omega (arith, date.day_high, long.0)) (omega arith) (omega arith) (omega arith) in
     reads ∙ (rw (date.value, fraction.value, time_parts nano) refl)

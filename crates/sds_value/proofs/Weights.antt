@@ -88,6 +88,7 @@ digits_bound (d ∷ ds) are =
   where
     digit_low : (d : ℕ) → is_ascii_digit d ≡ true → d - 48 ≤ 9
     digit_low d is = grind (arith, nat_tests)
+
     below : (d v p : ℕ) → d ≤ 9 → v < p → d * p + v < p * 10
     below d v p low rest = let most = mul_le_nine d p low in omega (arith, most, rest)
       where

@@ -1,6 +1,6 @@
 -- Which text reads as which value, the printed text of a value, and the order of values.
 -- A text that is read is given by its characters, a printed text by its bytes.
-use Rattle.std.specs.Prelude.{ℕ, Bool, true, false, not, ◌&&◌, ◌==◌, nat_le, if◌then◌else◌, List, [], ◌∷◌, length, ℤ, Option, None, Some, Result, Ok, Err}
+use Rattle.std.specs.Prelude.{ℕ, Bool, true, false, not, ◌&&◌, ◌==◌, nat_le, if◌then◌else◌, List, [], length, ℤ, Option, None, Some, Result, Ok, Err}
 use Rattle.std.specs.List.{list_any}
 use Rattle.std.specs.Fmt.{signed_decimal}
 use Rattle.std.specs.Str.{encode_utf8_all, all_scalars}
@@ -8,7 +8,7 @@ use Rattle.std.specs.declared.cmp.Ordering.{Ordering}
 use Rattle.std.specs.Ordering.{nat_cmp, int_cmp, ordering_then}
 use Rattle.std.specs.Cmp.Lexicographic.{slice_cmp}
 use Rattle.sds_value.specs.declared.kind.Binary.{Binary}
-use Rattle.sds_value.specs.declared.kind.Binary.TheVariants.{Base64, Hex, Plain}
+use Rattle.sds_value.specs.declared.kind.Binary.TheVariants.{Plain}
 use Rattle.sds_value.specs.declared.kind.Kind.{Kind}
 use Rattle.sds_value.specs.declared.kind.Kind.TheVariants as Kinds
 use Rattle.sds_value.specs.declared.kind.Value.{Value}

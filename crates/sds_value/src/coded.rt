@@ -13,7 +13,12 @@ use sds_base::NoMemory;
 use std::alloc::Global;
 
 /// The bytes that a text reads as under VARBINARY of at most so many bytes.
-pub(crate) fn read_binary(alloc: Global, form: Binary, text: &str, most: u16) -> Result<Value, ValueRefusal>
+pub(crate) fn read_binary(
+    alloc: Global,
+    form: Binary,
+    text: &str,
+    most: u16,
+) -> Result<Value, ValueRefusal>
     ensures { result ≢ Err ValueRefusal.NoMemory → result ≡ varbinary_of most form (chars text.now) }
 {
     let Some(bytes) = decode(alloc, form, text)? else {

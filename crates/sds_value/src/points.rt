@@ -7,7 +7,9 @@ ghost use Rattle.sds_value.specs.Digits.{digits_value, filled};
 ghost use Rattle.sds_value.specs.Decimals.{is_point, whole_part, fraction_part, is_fraction, is_decimal_text, with_point, decimal_text};
 ghost use Rattle.sds_value.specs.Values.{decimal_of};
 
-use crate::sums::{add_digits, add_fraction, begins_with_minus, behind_sign, is_digits, pad, with_sign};
+use crate::sums::{
+    add_digits, add_fraction, begins_with_minus, behind_sign, is_digits, pad, with_sign,
+};
 use crate::{Value, ValueRefusal};
 use sds_base::NoMemory;
 use std::alloc::Global;
@@ -40,7 +42,11 @@ fn parts(bytes: &[u8], scale: u8) -> Option<(&[u8], &[u8])>
 {
     let unsigned = behind_sign(bytes);
     let Some(point) = find_point(unsigned) else {
-        return if is_digits(unsigned) { Some((unsigned, &[])) } else { None };
+        return if is_digits(unsigned) {
+            Some((unsigned, &[]))
+        } else {
+            None
+        };
     };
     let whole = &unsigned[..point];
     let fraction = &unsigned[point + 1..];

@@ -44,7 +44,8 @@ fn read_day_and_time(bytes: &[u8]) -> Result<Value, ValueRefusal>
 fn has_stamp_form(bytes: &[u8]) -> bool
     ensures { result ≡ has_stamp_form bytes.now }
 {
-    let is_front = begins_like(bytes, b"0000-00-00 00:00:00") || begins_like(bytes, b"0000-00-00T00:00:00");
+    let is_front = begins_like(bytes, b"0000-00-00 00:00:00")
+        || begins_like(bytes, b"0000-00-00T00:00:00");
     is_front && is_subsecond(behind(bytes, 19))
 }
 

@@ -1,7 +1,4 @@
-use Rattle.std.proofs.Common.{◌≡◌, ◌∙◌, ap, arith, None, Some, length}
-use Rattle.std.specs.Vec.{vec_len}
-use Rattle.sds_value.specs.declared.kind.Value.TheVariants.{Bin}
-use Rattle.std.proofs.Common.{Ok}
+use Rattle.std.proofs.Common.{◌∙◌, arith, None, Some}
 use Rattle.sds_value.proofs.Bytes.{of_text, short_binary, long_binary, some_is, none_is}
 use Rattle.sds_value.proofs.coded.read_binary.Goals as goal
 

@@ -1,5 +1,4 @@
-use Rattle.std.proofs.Common.{◌∙◌, ap}
-use Rattle.sds_value.specs.Values.{decimal_of}
+use Rattle.std.proofs.Common.{◌∙◌}
 use Rattle.sds_value.proofs.Decimals.{decimal_same}
 use Rattle.sds_value.proofs.points.read_decimal.Goals as goal
 

@@ -1,4 +1,4 @@
-use Rattle.std.proofs.Common.{◌≡◌, ◌∙◌, arith, refl, w8}
+use Rattle.std.proofs.Common.{◌∙◌, arith, refl, w8}
 use Rattle.std.proofs.lemmas.Int.{to_z_pos}
 use mir.Syntax.{w16}
 use Rattle.sds_value.proofs.Days.{date_found, date_missing}

@@ -1,5 +1,4 @@
-use Rattle.std.proofs.Common.{◌≡◌, ◌∙◌, refl, ap}
-use Rattle.std.specs.Prelude.{unsigned_abs}
+use Rattle.std.proofs.Common.{◌∙◌, refl}
 use Rattle.sds_value.proofs.Padding.{styled_is}
 use Rattle.sds_value.proofs.Days.{stamp_epoch, epoch_cast, ok_is, date_parts, year_cast}
 use Rattle.sds_value.proofs.stamps.print_date.Goals as goal

@@ -1,5 +1,4 @@
-use Rattle.std.proofs.Common.{arith, length}
-use Rattle.sds_value.specs.Digits.{digits_value}
+use Rattle.std.proofs.Common.{arith}
 use Rattle.sds_value.proofs.Weights.{some_of, some_value, digits_bound, few_digits}
 use Rattle.sds_value.proofs.sums.sum_digits.Goals as goal
 
