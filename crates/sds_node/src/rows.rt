@@ -1,6 +1,5 @@
 // The rows of the one table: a number and a text.
-ghost use Rattle.std.specs.Prelude.{◌≡◌, ◌<◌, ◌≤◌, ◌||◌, ◌∷◌, [], IsTrue, IfOk, MatchOption, Some, None, false, length, take, drop};
-ghost use Rattle.sds_value.specs.Values.{is_built};
+ghost use Rattle.std.specs.Prelude.{◌≡◌, ◌<◌, ◌≤◌, ◌||◌, ◌∷◌, [], IfOk, MatchOption, Some, None, false, length, take, drop};
 ghost use Rattle.sds_spec.specs.Capture.{field_value, row_values};
 ghost use Rattle.sds_spec.specs.One.{one};
 ghost use Rattle.sds_spec.specs.Places.{columns_of};
@@ -21,7 +20,6 @@ const TEXT: Kind = Kind::Varchar(40);
 
 /// The value of a field under the kind of its column.
 fn read_field(alloc: Global, kind: Kind, field: &Field) -> Result<Value, NoMemory>
-    requires { IsTrue (is_built kind) }
     ensures { IfOk result (λ value. value ≡ field_value kind field.now) }
 {
     match field {

@@ -9,7 +9,7 @@ use Rattle.sds_value.specs.declared.row.Field.TheVariants as field
 use Rattle.sds_value.specs.declared.kind.Value.{Value}
 use Rattle.sds_value.specs.declared.kind.Value.TheVariants.{Null}
 use Rattle.sds_value.specs.declared.table.ColumnDef.{ColumnDef}
-use Rattle.sds_value.specs.Values.{printed}
+use Rattle.sds_spec.specs.Texts.{value_text}
 use Rattle.std.specs.Str.{chars}
 use Rattle.sds_config.specs.declared.config.ChannelDef.{ChannelDef}
 use Rattle.sds_config.specs.declared.config.Config.{Config}
@@ -70,7 +70,7 @@ channels_of config (channel ∷ channels) = filter (λ (place : ℕ). list_any (
 -- the field of a value
 abbrev pub field_of : Value → Field
 field_of Null = field.Null
-field_of value = field.Text (chars (printed value))
+field_of value = field.Text (chars (value_text value))
 
 abbrev pub values_of : Option Row → List Value
 values_of None = []

@@ -13,9 +13,18 @@ use Rattle.sds_value.specs.declared.kind.Kind.{Kind}
 use Rattle.sds_value.specs.declared.kind.Kind.TheVariants as Kinds
 use Rattle.sds_value.specs.declared.kind.Value.{Value}
 use Rattle.sds_value.specs.declared.kind.Value.TheVariants.{Null, Integer, Decimal, Text, Stamp, Bin}
-use Rattle.sds_value.specs.Values.{digits_value, without_sign, has_minus, is_integer_text, integer_value, is_in_range, integer_of, varchar_of, has_zero, fits, printed, value_of}
+use Rattle.sds_value.specs.Values.{digits_value, without_sign, has_minus, is_integer_text, integer_value, is_in_range, integer_of, varchar_of, has_zero, fits, is_written, printed, value_of}
 use Rattle.sds_value.proofs.Characters.{left_true, right_true}
 use Rattle.sds_value.proofs.Integers.{own, range_mag}
+use Rattle.sds_value.proofs.Decimals.{decimal_chars}
+use Rattle.sds_value.proofs.Moments.{stamp_chars}
+use Rattle.sds_value.proofs.Stamped.{stamp_back}
+use Rattle.sds_value.specs.Stamps.{stamp_text}
+use Rattle.sds_value.proofs.Bytes.{binary_back}
+use Rattle.sds_value.specs.Binaries.{are_bytes}
+use Rattle.sds_value.specs.declared.kind.Binary.TheVariants.{Base64, Hex, Plain}
+use Rattle.sds_value.proofs.Pointed.{decimal_back}
+use Rattle.sds_value.specs.Decimals.{decimal_text}
 
 digit_unsigned : (c : ℕ) → is_ascii_digit c ≡ true → (c == 43 || c == 45) ≡ false
 digit_unsigned c is = grind (arith, nat_tests)
@@ -61,19 +70,39 @@ varchar_back n text fit =
     let short : leb (length text) n ≡ true = right_true (not (has_zero text)) (leb (length text) n) fit in
     rw (whole, short) refl
 
-pub reads_back : (kind : Kind) (form : Binary) (value : Value) → fits kind value ≡ true → value_of kind form (chars (printed value)) ≡ Ok value
-reads_back Kinds.Integer form (Integer z) fit = rw (chars-IsAscii (signed_decimal z) (IsAscii-signed z (range_mag z fit))) (integer_back z fit)
-reads_back Kinds.Integer form Null fit = absurd (cc)
-reads_back Kinds.Integer form (Decimal z) fit = absurd (cc)
-reads_back Kinds.Integer form (Text text) fit = absurd (cc)
-reads_back Kinds.Integer form (Stamp day nano) fit = absurd (cc)
-reads_back Kinds.Integer form (Bin bytes) fit = absurd (cc)
-reads_back (Kinds.Varchar n) form (Text text) fit = rw (chars-encodes text (left_true (all_scalars text) (not (has_zero text) && leb (length text) n) fit)) (varchar_back n text (right_true (all_scalars text) (not (has_zero text) && leb (length text) n) fit))
-reads_back (Kinds.Varchar n) form Null fit = absurd (cc)
-reads_back (Kinds.Varchar n) form (Integer z) fit = absurd (cc)
-reads_back (Kinds.Varchar n) form (Decimal z) fit = absurd (cc)
-reads_back (Kinds.Varchar n) form (Stamp day nano) fit = absurd (cc)
-reads_back (Kinds.Varchar n) form (Bin bytes) fit = absurd (cc)
-reads_back (Kinds.Decimal s) form value fit = absurd (cc)
-reads_back Kinds.Timestamp form value fit = absurd (cc)
-reads_back (Kinds.Varbinary n) form value fit = absurd (cc)
+plain_not : (n : ℕ) (form : Binary) → is_written (Kinds.Varbinary n) form ≡ true → form ≡ Plain → ⊥
+plain_not n Base64 written is = cc
+plain_not n Hex written is = cc
+plain_not n Plain written is = cc
+
+pub reads_back : (kind : Kind) (form : Binary) (value : Value) → is_written kind form ≡ true → fits kind value ≡ true → value_of kind form (chars (printed kind form value)) ≡ Ok value
+reads_back Kinds.Integer form (Integer z) written fit = rw (chars-IsAscii (signed_decimal z) (IsAscii-signed z (range_mag z fit))) (integer_back z fit)
+reads_back Kinds.Integer form Null written fit = absurd (cc)
+reads_back Kinds.Integer form (Decimal z) written fit = absurd (cc)
+reads_back Kinds.Integer form (Text text) written fit = absurd (cc)
+reads_back Kinds.Integer form (Stamp day nano) written fit = absurd (cc)
+reads_back Kinds.Integer form (Bin bytes) written fit = absurd (cc)
+reads_back (Kinds.Varchar n) form (Text text) written fit = rw (chars-encodes text (left_true (all_scalars text) (not (has_zero text) && leb (length text) n) fit)) (varchar_back n text (right_true (all_scalars text) (not (has_zero text) && leb (length text) n) fit))
+reads_back (Kinds.Varchar n) form Null written fit = absurd (cc)
+reads_back (Kinds.Varchar n) form (Integer z) written fit = absurd (cc)
+reads_back (Kinds.Varchar n) form (Decimal z) written fit = absurd (cc)
+reads_back (Kinds.Varchar n) form (Stamp day nano) written fit = absurd (cc)
+reads_back (Kinds.Varchar n) form (Bin bytes) written fit = absurd (cc)
+reads_back (Kinds.Decimal s) form (Decimal z) written fit = decimal_chars s (decimal_text s z) (Decimal z) (decimal_back s z fit)
+reads_back (Kinds.Decimal s) form Null written fit = absurd (cc)
+reads_back (Kinds.Decimal s) form (Integer z) written fit = absurd (cc)
+reads_back (Kinds.Decimal s) form (Text text) written fit = absurd (cc)
+reads_back (Kinds.Decimal s) form (Stamp day nano) written fit = absurd (cc)
+reads_back (Kinds.Decimal s) form (Bin bytes) written fit = absurd (cc)
+reads_back Kinds.Timestamp form (Stamp day nano) written fit = stamp_chars (stamp_text day nano) (Stamp day nano) (stamp_back day nano fit)
+reads_back Kinds.Timestamp form Null written fit = absurd (cc)
+reads_back Kinds.Timestamp form (Integer z) written fit = absurd (cc)
+reads_back Kinds.Timestamp form (Decimal z) written fit = absurd (cc)
+reads_back Kinds.Timestamp form (Text text) written fit = absurd (cc)
+reads_back Kinds.Timestamp form (Bin bytes) written fit = absurd (cc)
+reads_back (Kinds.Varbinary n) form (Bin bytes) written fit = binary_back n form bytes (left_true (are_bytes bytes) (leb (length bytes) n) fit) (right_true (are_bytes bytes) (leb (length bytes) n) fit) (plain_not n form written)
+reads_back (Kinds.Varbinary n) form Null written fit = absurd (cc)
+reads_back (Kinds.Varbinary n) form (Integer z) written fit = absurd (cc)
+reads_back (Kinds.Varbinary n) form (Decimal z) written fit = absurd (cc)
+reads_back (Kinds.Varbinary n) form (Text text) written fit = absurd (cc)
+reads_back (Kinds.Varbinary n) form (Stamp day nano) written fit = absurd (cc)

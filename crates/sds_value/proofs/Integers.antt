@@ -48,7 +48,7 @@ range_mag (negsuc n) is = grind (arith, nat_tests)
 pub range_fits : (z : ℤ) → is_in_range z ≡ true → FitsSigned w64 z
 range_fits z is = record { sfits = range_mag z is }
 
-sign_small : (c : ℕ) → (c == 43 || c == 45) ≡ true → c < 128
+pub sign_small : (c : ℕ) → (c == 43 || c == 45) ≡ true → c < 128
 sign_small c is = grind (arith, nat_tests)
 
 integer_ascii_at : (c : ℕ) (cs : List ℕ) (b : Bool) → (c == 43 || c == 45) ≡ b → is_integer_text (c ∷ cs) ≡ true → IsAscii (c ∷ cs)

@@ -1,4 +1,15 @@
 pub mod Characters
+pub mod Weights
 pub mod Integers
+pub mod Decimals
+pub mod Padding
+pub mod Pointed
+pub mod Bytes
+pub mod Days
+pub mod Moments
+pub mod Stamped
+pub mod Lasting
 pub mod Back
+pub mod Fitting
+pub mod Longer
 pub mod Orders

@@ -1,17 +1,22 @@
 ghost use Rattle.std.specs.Prelude.{◌≡◌};
 
 use std::alloc::AllocError;
+use thiserror::Error;
 
 /// Why a text was not read as a value.
-#[derive(Clone, Copy, Debug, PartialEq, Eq)]
+#[derive(Clone, Copy, Debug, PartialEq, Eq, Error)]
 pub enum ValueRefusal {
-    /// The text has not the form of a value of the kind.
+    /// The text has not the form of a value of the kind, or names a day or a time that there is not.
+    #[error("the text is none of the kind")]
     BadText,
-    /// The text has more characters than the kind allows, and would read under a wider one.
+    /// The text has more characters or bytes than the kind allows, and would read under a wider one.
+    #[error("the text is longer than the kind allows")]
     TooLong,
-    /// The text has the form of a number, and the number lies outside the range of the kind.
+    /// The text has the form of a number that lies outside the range of the kind, or of a day outside its years.
+    #[error("the value is out of the range of the kind")]
     OutOfRange,
     /// Memory was wanting.
+    #[error("memory was wanting")]
     NoMemory,
 }
 

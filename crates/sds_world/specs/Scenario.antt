@@ -23,9 +23,9 @@ use Rattle.sds_world.specs.Words.{are}
 abbrev pub is_number : List ℕ → Bool
 is_number field = nat_le 1 (length field) && (nat_le (length field) 19 && list_all is_ascii_digit field)
 
--- a text that reads as this value is the value's printed text
+-- a text that reads as this value of INTEGER is the value's printed text
 abbrev pub is_printed_as : Result Value ValueRefusal → List ℕ → Bool
-is_printed_as (Ok value) field = bytes_eq (printed value) field
+is_printed_as (Ok value) field = bytes_eq (printed Integer Base64 value) field
 is_printed_as (Err refusal) field = false
 
 -- the printed text of an INTEGER: `-` where it is negative, and digits without leading zeros
