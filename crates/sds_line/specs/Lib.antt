@@ -1,0 +1,4 @@
+pub mod Places
+pub mod Characters
+pub mod Reading
+pub mod Written
