@@ -2,6 +2,7 @@ ghost use Rattle.std.specs.Prelude.{◌≡◌, ◌≢◌, ◌<◌, ◌++◌, ◌
 ghost use Rattle.std.specs.Char.{IsScalar};
 ghost use Rattle.std.specs.Str.{chars};
 ghost use Rattle.sds_line.specs.Reading.{empty_line, with_byte, begun, gone_on, with_character, field_at, ended_line, is_inside, without_end_spacing};
+ghost use Rattle.sds_line.specs.Splitting.{is_end, is_blank};
 ghost use Rattle.sds_line.specs.Places.{is_spacing};
 ghost use Rattle.sds_line.specs.Characters.{continues, next_of};
 
@@ -127,29 +128,57 @@ impl Draft {
         Ok(())
     }
 
-    /// Ends the line: its fields, or why it may not end so.
-    pub(crate) fn end(self) -> Result<Vec<Field>, LineRefusal>
-        ensures ok { IfOk result (λ fields. ended_line self ≡ Ok fields.items) }
-        ensures err { IfErr result (λ refusal. refusal ≢ LineRefusal.NoMemory → ended_line self ≡ Err refusal) }
+    /// Whether the byte is a line feed that ends the line.
+    pub(crate) fn is_end(&self, byte: u8) -> bool
+        ensures { result ≡ is_end self.now byte }
+    {
+        byte == b'\n' && self.partial.wanted == 0 && !is_inside(self.place)
+    }
+
+    /// Whether a line that ends so is blank or a comment.
+    pub(crate) fn is_blank(&self) -> bool
+        ensures { result ≡ is_blank self.now }
+    {
+        self.partial.wanted == 0 && matches!(self.place, Place::Start | Place::Comment)
+    }
+
+    /// Ends the line, and begins the next one: the fields, or why it may not end so, which leaves it as it was.
+    pub(crate) fn end(&mut self) -> Result<Vec<Field>, LineRefusal>
+        ensures ok { IfOk result (λ fields. (ended_line self.old ≡ Ok fields.items) × (self.new ≡ empty_line)) }
+        ensures err { IfErr result (λ refusal. refusal ≢ LineRefusal.NoMemory → (ended_line self.old ≡ Err refusal) × (self.new ≡ self.old)) }
     {
         if self.partial.wanted > 0 {
             return Err(LineRefusal::NotUtf8);
         }
-        let Draft {
-            place,
-            partial: _,
-            text,
-            mut fields,
-        } = self;
-        match place {
+        match self.place {
             Place::Quoted | Place::Escaped => Err(LineRefusal::OpenQuote),
-            Place::Start | Place::Comment => Ok(Vec::new(*fields.allocator())),
+            Place::Start | Place::Comment => {
+                let fields = self.begin_anew();
+                Ok(Vec::new(*fields.allocator()))
+            }
             Place::Before | Place::Plain | Place::Behind => {
-                fields.push(field_at(place, text)?)?;
-                Ok(fields)
+                self.divide()?;
+                Ok(self.begin_anew())
             }
         }
     }
+
+    /// Begins the next line, and gives the fields of this one.
+    fn begin_anew(&mut self) -> Vec<Field>
+        ensures fields { result.items ≡ self.old.fields }
+        ensures anew { self.new ≡ empty_line }
+    {
+        let alloc = *self.fields.allocator();
+        let anew = Draft::new(alloc);
+        let Draft { fields, .. } = mem::replace(self, anew);
+        fields
+    }
+}
+
+fn is_inside(place: Place) -> bool
+    ensures { result ≡ is_inside place }
+{
+    matches!(place, Place::Quoted | Place::Escaped)
 }
 
 /// The field that ends at a place.

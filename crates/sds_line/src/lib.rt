@@ -3,16 +3,20 @@
 
 mod draft;
 mod line;
+mod lines;
 mod partial;
 mod place;
 mod reading;
 mod refusal;
+mod splitter;
 mod writing;
 
 pub use draft::Draft;
 pub use line::Line;
+pub use lines::{Lines, Phase};
 pub use partial::Partial;
 pub use place::{Act, Place};
 pub use reading::read_line;
 pub use refusal::LineRefusal;
+pub use splitter::Splitter;
 pub use writing::put_fields;
