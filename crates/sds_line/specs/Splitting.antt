@@ -7,7 +7,7 @@ use Rattle.sds_line.specs.declared.lines.Phase.TheVariants.{Open, Due, Over, Spe
 use Rattle.sds_line.specs.declared.place.Place.{Place}
 use Rattle.sds_line.specs.declared.place.Place.TheVariants.{Start, Comment}
 use Rattle.sds_line.specs.declared.refusal.LineRefusal.{LineRefusal}
-use Rattle.sds_line.specs.declared.refusal.LineRefusal.TheVariants.{LineTooLong}
+use Rattle.sds_line.specs.declared.refusal.LineRefusal.TheVariants.{LineTooLong, NoMemory}
 use Rattle.sds_line.specs.Reading.{HalfLine, empty_line, with_byte, is_inside, ended_line}
 
 -- the line that has not ended: its number, how many bytes it has so far, how many of them are line feeds, and what has come of its fields
@@ -136,13 +136,41 @@ is_finished Due = true
 is_finished Over = true
 is_finished phase = false
 
+-- the text goes on, or its last line is not split yet
+abbrev pub goes_on : Phase → Bool
+goes_on Open = true
+goes_on Due = true
+goes_on phase = false
+
+-- the end of the text is not asked for, or it is split
+abbrev pub is_settled : Phase → Bool
+is_settled Open = true
+is_settled Over = true
+is_settled phase = false
+
 -- want of memory has lost a part of the text
 abbrev pub is_spent : Phase → Bool
 is_spent Spent = true
 is_spent phase = false
 
+-- more of a text is split, behind these lines
+abbrev pub behind : List Line → Split → Split
+behind taken s = record s { lines = taken ++ s.lines }
+
 -- The reader was fed this text, in whatever pieces, these lines of it were taken, and its end is known or not.
 pub record Follows (text : List ℕ) (taken : List Line) (finished : Bool) (v : Fed) : Type 0 where
-  pub reads : record (left v) { lines = taken ++ (left v).lines } ≡ lines_in finished text
+  pub reads : behind taken (left v) ≡ lines_in finished text
   pub phase : is_finished v.phase ≡ finished
   pub whole : is_spent v.phase ≡ false
+
+-- All lines of the text were taken, and this stands behind them.
+pub record IsEnd (text : List ℕ) (taken : List Line) (finished : Bool) (stop : Option LineRefusal) : Type 0 where
+  pub all : (lines_in finished text).lines ≡ taken
+  pub behind_all : (lines_in finished text).stop ≡ stop
+
+-- What an answer says of the text, and of the reader behind it. After want of memory the reader is spent.
+abbrev pub Answers : List ℕ → List Line → Bool → Result (Option Line) LineRefusal → Fed → Type 0
+Answers text taken finished (Ok (Some line)) new = Follows text (taken ++ line ∷ []) finished new
+Answers text taken finished (Ok None) new = IsEnd text taken finished None × Follows text taken finished new
+Answers text taken finished (Err NoMemory) new = is_spent new.phase ≡ true
+Answers text taken finished (Err refusal) new = IsEnd text taken finished (Some refusal) × Follows text taken finished new

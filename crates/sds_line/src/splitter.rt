@@ -1,4 +1,4 @@
-ghost use Rattle.std.specs.Prelude.{◌≡◌, ◌≢◌, ◌+◌, ◌^◌, ◌<◌, ◌≤◌, length, OnOk};
+ghost use Rattle.std.specs.Prelude.{◌≡◌, ◌≢◌, ◌+◌, ◌^◌, ◌<◌, ◌≤◌, length, OnOk, Err};
 ghost use Rattle.sds_line.specs.Reading.{ended_line, with_byte};
 ghost use Rattle.sds_line.specs.Splitting.{and_then, one_byte, lengthened, split, text_end, ended, next_of, without_first, next_number, reach};
 
@@ -23,11 +23,15 @@ pub struct Splitter {
 }
 
 impl Model for Splitter {
+    ghost use Rattle.std.specs.Prelude.{◌≢◌, Some};
+    ghost use Rattle.sds_line.specs.declared.refusal.LineRefusal.TheVariants.{NoMemory};
     ghost use Rattle.sds_line.specs.Splitting.{Split};
 
     ghost Value = { Split };
 
     ghost view = { λ s. record { lines = s.lines.items; stop = s.stop; last = record { number = s.number; length = s.length; feeds = s.feeds; half = s.draft } } };
+
+    ghost invariant = { λ s. s.stop ≢ Some NoMemory };
 }
 
 impl Splitter {
@@ -145,6 +149,7 @@ impl Splitter {
     pub(crate) fn next(&mut self) -> Result<Option<Line>, LineRefusal>
         ensures answer { result ≡ next_of self.old }
         ensures taken { self.new ≡ without_first self.old }
+        ensures memory { result ≢ Err LineRefusal.NoMemory }
     {
         if let Some(line) = self.lines.pop_front() {
             return Ok(Some(line));
@@ -170,7 +175,10 @@ impl Splitter {
         requires { reach self.now < 2 ^ 63 }
         ensures { result ≡ next_number (and_then self.now text_end) }
     {
-        if self.lines.is_empty() && self.stop.is_none() && self.length > 0 && self.draft.is_blank()
+        if self.lines.is_empty()
+            && self.stop.is_none()
+            && self.length > 0
+            && self.draft.is_blank()
         {
             return self.number + self.feeds + 1;
         }
