@@ -42,8 +42,8 @@ field_at place text = Null
 
 -- the line with one more character; those of a comment are not kept
 abbrev pub with_character : Place → ℕ → HalfLine → HalfLine
-with_character Comment c h = record h { place = Comment; partial = whole }
-with_character place c h = record h { place = place; partial = whole; text = h.text ++ c ∷ [] }
+with_character Comment c h = record h { place = Comment }
+with_character place c h = record h { place = place; text = h.text ++ c ∷ [] }
 
 -- the line with the first byte of a character
 abbrev pub begun : HalfLine → Place → ℕ → Result HalfLine LineRefusal
@@ -55,7 +55,7 @@ begun h place b =
 abbrev pub gone_on : HalfLine → Partial → Result HalfLine LineRefusal
 gone_on h next =
     if nat_lt 0 next.wanted then Ok (record h { partial = next })
-    else if scalar next.bits then Ok (with_character h.place next.bits h) else Err NotUtf8
+    else if scalar next.bits then Ok (with_character h.place next.bits (record h { partial = whole })) else Err NotUtf8
 
 abbrev pub acted : HalfLine → ℕ → Act → Result HalfLine LineRefusal
 acted h b (Pass place) = Ok (record h { place = place })

@@ -15,6 +15,9 @@ use std::alloc::Global;
 use std::marker::Model;
 use std::mem;
 
+/// For how many bytes the text of a field takes room at first: the least that allocators hand out.
+const FIRST_ROOM: usize = 24;
+
 /// A line of which a front has come.
 #[derive(Debug, Drop)]
 pub struct Draft {
@@ -101,7 +104,10 @@ impl Draft {
         }
         match char::from_u32(next.bits) {
             None => Err(LineRefusal::NotUtf8),
-            Some(character) => self.add(self.place, character),
+            Some(character) => {
+                self.partial = whole();
+                self.add(self.place, character)
+            }
         }
     }
 
@@ -113,7 +119,6 @@ impl Draft {
             push_character(&mut self.text, character)?;
         }
         self.place = place;
-        self.partial = whole();
         Ok(())
     }
 
@@ -200,7 +205,19 @@ fn push_character(text: &mut String, character: char) -> Result<(), LineRefusal>
     ensures ok { OnOk result (chars (string_bytes text.new) ≡ chars (string_bytes text.old) ++ character ∷ []) }
     ensures err { IfErr result (λ refusal. refusal ≡ LineRefusal.NoMemory) }
 {
+    make_room(text)?;
     text.push(character)?;
+    Ok(())
+}
+
+/// Takes room for the first bytes of a text at once.
+fn make_room(text: &mut String) -> Result<(), LineRefusal>
+    ensures ok { OnOk result (string_bytes text.new ≡ string_bytes text.old) }
+    ensures err { IfErr result (λ refusal. refusal ≡ LineRefusal.NoMemory) }
+{
+    if text.capacity() == 0 {
+        text.reserve(FIRST_ROOM)?;
+    }
     Ok(())
 }
 
