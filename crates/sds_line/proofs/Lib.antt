@@ -2,3 +2,5 @@ pub mod Texts
 pub mod Fronts
 pub mod Seams
 pub mod Taken
+pub mod Characters
+pub mod Back

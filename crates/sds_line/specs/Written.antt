@@ -1,6 +1,6 @@
 -- The written form of a line.
-use Rattle.std.specs.Prelude.{ℕ, ◌≡◌, ◌||◌, ◌==◌, if◌then◌else◌, List, [], ◌∷◌, ◌++◌}
-use Rattle.std.specs.Str.{encode_utf8_all}
+use Rattle.std.specs.Prelude.{ℕ, ◌≡◌, Bool, true, false, ◌&&◌, ◌||◌, ◌==◌, if◌then◌else◌, List, [], ◌∷◌, ◌++◌}
+use Rattle.std.specs.Str.{encode_utf8_all, all_scalars}
 use Rattle.sds_value.specs.declared.row.Field.{Field}
 use Rattle.sds_value.specs.declared.row.Field.TheVariants.{Null, Text}
 
@@ -23,6 +23,21 @@ further_fields (field ∷ fields) = 44 ∷ (written_field field ++ further_field
 abbrev pub written_line : List Field → List ℕ
 written_line [] = []
 written_line (field ∷ fields) = written_field field ++ further_fields fields
+
+-- Fields that have a written form of their own: some field, and not a lone null, whose written form is a blank line.
+abbrev pub has_form : List Field → Bool
+has_form [] = false
+has_form (Null ∷ []) = false
+has_form (field ∷ fields) = true
+
+-- the field's text is made of characters
+abbrev pub is_field : Field → Bool
+is_field Null = true
+is_field (Text text) = all_scalars text
+
+abbrev pub are_fields : List Field → Bool
+are_fields [] = true
+are_fields (field ∷ fields) = is_field field && are_fields fields
 
 -- the new bytes are the old ones and something behind them
 pub record Extends (old new : List ℕ) : Type 0 where

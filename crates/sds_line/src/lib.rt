@@ -2,6 +2,7 @@
 #![tactic(auto)]
 
 mod draft;
+mod laws;
 mod line;
 mod lines;
 mod partial;
@@ -12,6 +13,7 @@ mod splitter;
 mod writing;
 
 pub use draft::Draft;
+pub use laws::written_reads_back;
 pub use line::Line;
 pub use lines::{Lines, Phase};
 pub use partial::Partial;
