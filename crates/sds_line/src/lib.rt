@@ -10,6 +10,8 @@ mod place;
 mod reading;
 mod refusal;
 mod splitter;
+#[cfg(test)]
+mod tests;
 mod writing;
 
 pub use draft::Draft;

@@ -1,4 +1,4 @@
-ghost use Rattle.std.specs.Prelude.{◌≡◌, ◌≢◌, ◌+◌, ◌^◌, ◌<◌, ◌≤◌, ◌++◌, List, ℕ, Bool, true, false, OnOk, OnErr, IfErr, Err, length};
+ghost use Rattle.std.specs.Prelude.{◌≡◌, ◌≢◌, ◌+◌, ◌^◌, ◌<◌, ◌≤◌, ◌++◌, List, ℕ, Bool, true, false, OnOk, OnErr, IfErr, IsErr, Err, length};
 ghost use Rattle.sds_line.specs.declared.line.Line.{Line};
 ghost use Rattle.sds_line.specs.Splitting.{Follows, Answers, left, next_number, reach, is_finished, is_settled, is_spent};
 
@@ -66,6 +66,7 @@ impl Lines {
         ensures open { is_finished self.new.phase ≡ false }
         ensures reach { reach self.new.split ≤ reach self.old.split + length piece.now }
         ensures spent { OnErr result (is_spent self.new.phase ≡ true) }
+        ensures stays { is_spent self.old.phase ≡ true → IsErr result }
     {
         if let Phase::Spent = self.phase {
             return Err(NoMemory);
@@ -80,6 +81,7 @@ impl Lines {
     /// Says that the text ends here. It takes no memory.
     pub fn finish(&mut self)
         ensures follows { (text : List ℕ) (taken : List Line) (finished : Bool) → Follows text taken finished self.old → Follows text taken true self.new }
+        ensures spent { is_spent self.old.phase ≡ true → is_spent self.new.phase ≡ true }
     {
         if let Phase::Open = self.phase {
             self.phase = Phase::Due;
@@ -98,7 +100,7 @@ impl Lines {
     /// lines is that of [`read_line`](crate::read_line), and is symds' own.
     pub fn next(&mut self) -> Result<Option<Line>, LineRefusal>
         ensures answers { (text : List ℕ) (taken : List Line) (finished : Bool) → Follows text taken finished self.old → Answers text taken finished result self.new }
-        ensures spent { is_spent self.old.phase ≡ true → result ≡ Err LineRefusal.NoMemory }
+        ensures spent { is_spent self.old.phase ≡ true → (result ≡ Err LineRefusal.NoMemory) × (is_spent self.new.phase ≡ true) }
         ensures phase { is_finished self.old.phase ≡ false → is_finished self.new.phase ≡ false }
         ensures reach { is_finished self.old.phase ≡ false → reach self.new.split ≡ reach self.old.split }
     {

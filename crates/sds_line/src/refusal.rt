@@ -27,6 +27,16 @@ pub enum LineRefusal {
     NoMemory,
 }
 
+impl From<sds_base::NoMemory> for LineRefusal {
+    ghost use Rattle.sds_line.specs.declared.refusal.LineRefusal.TheVariants.{NoMemory};
+
+    ghost from_gives = { λ _ refusal. refusal ≡ NoMemory };
+
+    fn from(_: sds_base::NoMemory) -> LineRefusal {
+        LineRefusal::NoMemory
+    }
+}
+
 impl From<AllocError> for LineRefusal {
     ghost use Rattle.sds_line.specs.declared.refusal.LineRefusal.TheVariants.{NoMemory};
 
