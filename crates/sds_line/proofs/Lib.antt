@@ -4,3 +4,4 @@ pub mod Seams
 pub mod Taken
 pub mod Characters
 pub mod Back
+pub mod Alone

@@ -6,10 +6,10 @@ use Rattle.sds_line.specs.declared.lines.Phase.{Phase}
 use Rattle.sds_line.specs.declared.lines.Phase.TheVariants.{Open, Due, Over, Spent}
 use Rattle.sds_line.specs.declared.refusal.LineRefusal.{LineRefusal}
 use Rattle.sds_line.specs.declared.refusal.LineRefusal.TheVariants.{BareQuote, OpenQuote, BadEscape, LineTooLong, NotUtf8, NoMemory}
-use Rattle.sds_line.specs.Splitting.{LastLine, Split, Fed, Follows, Answers, and_then, behind, first_line, split, text_end, lines_in, left, next_of, without_first, is_settled, is_finished, is_spent}
+use Rattle.sds_line.specs.Splitting.{LastLine, Split, Fed, Follows, Answers, and_then, behind, line_at, split, text_end, lines_in, left, next_of, without_first, is_settled, is_finished, is_spent}
 use Rattle.sds_line.proofs.Seams.{split_append}
 
-behind_then : (taken : List Line) (s : Split) (f : LastLine → Split) → behind taken (and_then s f) ≡ and_then (behind taken s) f
+pub behind_then : (taken : List Line) (s : Split) (f : LastLine → Split) → behind taken (and_then s f) ≡ and_then (behind taken s) f
 behind_then taken s f = at s.lines s.stop s.last
   where
     at : (lines : List Line) (stop : Option LineRefusal) (last : LastLine) →
@@ -20,7 +20,7 @@ behind_then taken s f = at s.lines s.stop s.last
 -- a piece more
 pub follows_more : (phase : Phase) (s new : Split) (text piece : List ℕ) (taken : List Line) → new ≡ and_then s (λ u. split u piece) → Follows text taken false (record { phase = phase; split = s }) → Follows (text ++ piece) taken false (record { phase = phase; split = new })
 follows_more Open s new text piece taken is f = record {
-  reads = ap (behind taken) is ∙ (behind_then taken s (λ u. split u piece) ∙ (ap (λ (t : Split). and_then t (λ u. split u piece)) f.reads ∙ sym (split_append first_line text piece)));
+  reads = ap (behind taken) is ∙ (behind_then taken s (λ u. split u piece) ∙ (ap (λ (t : Split). and_then t (λ u. split u piece)) f.reads ∙ sym (split_append (line_at 1) text piece)));
   phase = refl;
   whole = refl;
 }

@@ -17,12 +17,12 @@ pub record LastLine : Type 0 where
   pub feeds : ℕ
   pub half : HalfLine
 
--- the first line of a text, and the line behind another one
-abbrev pub first_line : LastLine
-first_line = record { number = 1; length = 0; feeds = 0; half = empty_line }
+-- a line of which nothing has come, and the line behind another one
+abbrev pub line_at : ℕ → LastLine
+line_at number = record { number = number; length = 0; feeds = 0; half = empty_line }
 
 abbrev pub line_behind : LastLine → LastLine
-line_behind u = record { number = u.number + u.feeds + 1; length = 0; feeds = 0; half = empty_line }
+line_behind u = line_at (u.number + u.feeds + 1)
 
 -- a text that is split: its lines that have fields, why it is not read on, and the line that has not ended, or that is refused
 pub record Split : Type 0 where
@@ -83,12 +83,21 @@ split u (b ∷ bs) = and_then (one_byte u b) (λ v. split v bs)
 abbrev pub text_end : LastLine → Split
 text_end u = if u.length == 0 then record { lines = []; stop = None; last = u } else ended u (ended_line u.half)
 
+-- the lines of a text whose first line has this number
+abbrev pub lines_from : ℕ → List ℕ → Split
+lines_from number text = and_then (split (line_at number) text) text_end
+
+-- how many of the bytes are line feeds
+abbrev pub line_feeds : List ℕ → ℕ
+line_feeds [] = 0
+line_feeds (b ∷ bs) = (if b == 10 then 1 else 0) + line_feeds bs
+
 -- the lines of a text of which a front has come, and of a whole text
 abbrev pub lines_so_far : List ℕ → Split
-lines_so_far text = split first_line text
+lines_so_far text = split (line_at 1) text
 
 abbrev pub lines_of : List ℕ → Split
-lines_of text = and_then (lines_so_far text) text_end
+lines_of text = lines_from 1 text
 
 abbrev pub lines_in : Bool → List ℕ → Split
 lines_in finished text = if finished then lines_of text else lines_so_far text

@@ -36,11 +36,11 @@ impl Model for Splitter {
 
 impl Splitter {
     ghost use Rattle.std.specs.Prelude.{None, []};
-    ghost use Rattle.sds_line.specs.Splitting.{first_line};
+    ghost use Rattle.sds_line.specs.Splitting.{line_at};
 
     /// Before the first byte of a text.
     pub(crate) fn new(alloc: Global) -> Splitter
-        ensures { result ≡ record { lines = []; stop = None; last = first_line } }
+        ensures { result ≡ record { lines = []; stop = None; last = line_at 1 } }
     {
         Splitter {
             lines: VecDeque::new(alloc),
