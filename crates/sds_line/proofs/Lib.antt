@@ -5,3 +5,4 @@ pub mod Taken
 pub mod Characters
 pub mod Back
 pub mod Alone
+pub mod Hope

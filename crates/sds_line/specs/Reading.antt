@@ -97,3 +97,12 @@ rest_of_line h (b ∷ bs) = then_read (with_byte h b) (λ next. rest_of_line nex
 -- the fields of one line
 abbrev pub line_of : List ℕ → Result (List Field) LineRefusal
 line_of bytes = rest_of_line empty_line bytes
+
+abbrev pub then_go : Result HalfLine LineRefusal → (HalfLine → Result HalfLine LineRefusal) → Result HalfLine LineRefusal
+then_go (Ok h) go = go h
+then_go (Err refusal) go = Err refusal
+
+-- a line with these further bytes, or why no line goes on so
+abbrev pub with_bytes : HalfLine → List ℕ → Result HalfLine LineRefusal
+with_bytes h [] = Ok h
+with_bytes h (b ∷ bs) = then_go (with_byte h b) (λ next. with_bytes next bs)

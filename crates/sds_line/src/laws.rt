@@ -1,6 +1,7 @@
-ghost use Rattle.std.specs.Prelude.{◌≡◌, ◌+◌, ◌≤◌, ◌++◌, ◌∷◌, [], ℕ, List, length, IsTrue, Ok, None};
+ghost use Rattle.std.specs.Prelude.{◌≡◌, ◌+◌, ◌≤◌, ◌++◌, ◌∷◌, [], ℕ, List, length, IsTrue, Ok, Err, None};
 ghost use Rattle.sds_value.specs.declared.row.Field.{Field};
-ghost use Rattle.sds_line.specs.Reading.{line_of};
+ghost use Rattle.sds_line.specs.declared.refusal.LineRefusal.{LineRefusal};
+ghost use Rattle.sds_line.specs.Reading.{HalfLine, empty_line, with_bytes, line_of};
 ghost use Rattle.sds_line.specs.Splitting.{lines_from, line_feeds, numbered, behind};
 ghost use Rattle.sds_line.specs.Written.{written_line, has_form, are_fields};
 
@@ -16,4 +17,11 @@ pub fn lines_are_read_alone()
         → lines_from number (line ++ 10 ∷ text) ≡ behind (numbered number fields) (lines_from (number + line_feeds line + 1) text) }
     ensures last { (number : ℕ) (line : List ℕ) (fields : List Field) → line_of line ≡ Ok fields → length line ≤ 1048576
         → ((lines_from number line).lines ≡ numbered number fields) × ((lines_from number line).stop ≡ None) }
+{}
+
+/// The law that a refusal comes at the first byte from which on no way to go on is a line: behind it every line is
+/// refused for that cause, and before it some way to go on is a line.
+pub fn refusals_come_first()
+    ensures hopeless { (front more : List ℕ) (refusal : LineRefusal) → with_bytes empty_line front ≡ Err refusal → line_of (front ++ more) ≡ Err refusal }
+    ensures hopeful { (front : List ℕ) (half : HalfLine) → with_bytes empty_line front ≡ Ok half → (more : List ℕ) × (fields : List Field) × (line_of (front ++ more) ≡ Ok fields) }
 {}

@@ -15,7 +15,7 @@ mod tests;
 mod writing;
 
 pub use draft::Draft;
-pub use laws::{lines_are_read_alone, written_reads_back};
+pub use laws::{lines_are_read_alone, refusals_come_first, written_reads_back};
 pub use line::Line;
 pub use lines::{Lines, Phase};
 pub use partial::Partial;
