@@ -20,7 +20,7 @@ const FIRST_ROOM: usize = 24;
 
 /// A line of which a front has come.
 #[derive(Debug, Drop)]
-pub struct Draft {
+pub(crate) struct Draft {
     place: Place,
     partial: Partial,
     /// The characters of the field that has not ended.

@@ -14,13 +14,13 @@ mod splitter;
 mod tests;
 mod writing;
 
-pub use draft::Draft;
+use draft::Draft;
 pub use laws::{lines_are_read_alone, refusals_come_first, written_reads_back};
 pub use line::Line;
-pub use lines::{Lines, Phase};
-pub use partial::Partial;
-pub use place::{Act, Place};
+pub use lines::Lines;
+use partial::Partial;
+use place::{Act, Place};
 pub use reading::read_line;
 pub use refusal::LineRefusal;
-pub use splitter::Splitter;
+use splitter::Splitter;
 pub use writing::put_fields;

@@ -9,7 +9,7 @@ use std::marker::Model;
 
 /// Whether the text of a reader goes on.
 #[derive(Clone, Copy, Debug, PartialEq, Eq)]
-pub enum Phase {
+pub(crate) enum Phase {
     /// It may go on.
     Open,
     /// It has ended, and its last line is not split yet.
@@ -93,11 +93,12 @@ impl Lines {
     /// None comes exactly where the bytes that were fed hold no further whole line but blank ones and comments, and
     /// none of them is refused. A refusal comes behind the lines before it, as soon as its byte was fed, and every
     /// later call repeats it: `BareQuote`, `BadEscape` and `NotUtf8` at the first byte from which on no way to go on
-    /// is a line, `LineTooLong` at the byte behind 1,048,576 of one line, whatever else that byte is. Where several of
-    /// them stand at one byte, the first of `LineRefusal` comes, `LineTooLong` before all. After `finish` the last
-    /// bytes are a line without a line feed; an end inside a character is `NotUtf8`, and one inside quotes
-    /// `OpenQuote`. `NoMemory` comes of want of memory alone, and then every later call answers it. The form of the
-    /// lines is that of [`read_line`](crate::read_line), and is symds' own.
+    /// is a line, `LineTooLong` at the byte behind 1,048,576 of one line, its closing line feed not counted, whatever
+    /// else that byte is. A byte that breaks a character off is `NotUtf8`; any other byte is judged by its place, so
+    /// that behind a closing quote or a backslash a byte that begins no character is `BareQuote` or `BadEscape`.
+    /// After `finish` the last bytes are a line without a line feed; an end inside a character is `NotUtf8`, and one
+    /// inside quotes `OpenQuote`. `NoMemory` comes of want of memory alone, and then every later call answers it. The
+    /// form of the lines is that of [`read_line`](crate::read_line), and is symds' own.
     pub fn next(&mut self) -> Result<Option<Line>, LineRefusal>
         ensures answers { (text : List ℕ) (taken : List Line) (finished : Bool) → Follows text taken finished self.old → Answers text taken finished result self.new }
         ensures spent { is_spent self.old.phase ≡ true → (result ≡ Err LineRefusal.NoMemory) × (is_spent self.new.phase ≡ true) }

@@ -3,7 +3,7 @@ ghost use Rattle.sds_line.specs.Characters.{whole, is_lead, lowest, highest, lea
 
 /// What has come of a character whose UTF-8 has more than one byte.
 #[derive(Clone, Copy, Debug)]
-pub struct Partial {
+pub(crate) struct Partial {
     /// How many of its bytes are still to come, 0 between characters.
     pub wanted: u8,
     /// The bits of its bytes so far.

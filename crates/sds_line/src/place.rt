@@ -5,7 +5,7 @@ use crate::LineRefusal;
 
 /// Where in a line a byte stands.
 #[derive(Clone, Copy, Debug, PartialEq, Eq)]
-pub enum Place {
+pub(crate) enum Place {
     /// Only spacing stands before it in the line.
     Start,
     /// Only spacing stands between it and the comma before it.
@@ -24,7 +24,7 @@ pub enum Place {
 
 /// What a byte means that begins a character of a line.
 #[derive(Clone, Copy, Debug, PartialEq, Eq)]
-pub enum Act {
+pub(crate) enum Act {
     /// It is no part of a field, and the line goes on at the place.
     Pass(Place),
     /// It begins a character of a field or of a comment, and the line goes on at the place.

@@ -13,7 +13,7 @@ const MOST_BYTES: usize = 1_048_576;
 
 /// A text that is split into lines: those that are not taken yet, and the one that has not ended.
 #[derive(Debug, Drop)]
-pub struct Splitter {
+pub(crate) struct Splitter {
     lines: VecDeque<Line>,
     stop: Option<LineRefusal>,
     number: u64,
