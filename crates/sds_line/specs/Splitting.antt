@@ -1,5 +1,5 @@
 -- The lines of a text.
-use Rattle.std.specs.Prelude.{ℕ, ◌+◌, ◌≡◌, Bool, true, false, not, ◌&&◌, ◌==◌, nat_lt, nat_le, if◌then◌else◌, List, [], ◌∷◌, ◌++◌, drop, Option, None, Some, Result, Ok, Err}
+use Rattle.std.specs.Prelude.{ℕ, ◌+◌, ◌≡◌, Bool, true, false, not, ◌&&◌, ◌==◌, nat_lt, nat_le, if◌then◌else◌, List, [], ◌∷◌, ◌++◌, length, drop, Option, None, Some, Result, Ok, Err}
 use Rattle.sds_value.specs.declared.row.Field.{Field}
 use Rattle.sds_line.specs.declared.line.Line.{Line}
 use Rattle.sds_line.specs.declared.lines.Phase.{Phase}
@@ -91,6 +91,10 @@ lines_from number text = and_then (split (line_at number) text) text_end
 abbrev pub line_feeds : List ℕ → ℕ
 line_feeds [] = 0
 line_feeds (b ∷ bs) = (if b == 10 then 1 else 0) + line_feeds bs
+
+-- a line of which this front has come
+abbrev pub line_begun : ℕ → List ℕ → HalfLine → LastLine
+line_begun number front half = record { number = number; length = length front; feeds = line_feeds front; half = half }
 
 -- the lines of a text of which a front has come, and of a whole text
 abbrev pub lines_so_far : List ℕ → Split
