@@ -1,6 +1,5 @@
 -- A text's lines are what its lines read as alone.
-use Rattle.std.proofs.Common.{◌≡◌, ℕ, ◌+◌, ◌<◌, ◌≤◌, List, [], ◌∷◌, ◌++◌, length, refl, sym, ap, ◌∙◌, Bool, true, false, nat_eq, nat_lt, nat_le, None, Result, Ok, Err, arith, add_assoc, add-zero, zero-add, subst, if◌then◌else◌}
-use Rattle.std.proofs.lemmas.Bool.Decides.{nat_tests}
+use Rattle.std.proofs.Common.{◌≡◌, ℕ, ◌+◌, ◌<◌, ◌≤◌, List, [], ◌∷◌, ◌++◌, length, refl, sym, ap, ◌∙◌, Bool, true, false, nat_eq, nat_lt, None, Result, Ok, Err, arith, add_assoc, add-zero, zero-add, subst, if◌then◌else◌}
 use Rattle.sds_value.specs.declared.row.Field.{Field}
 use Rattle.sds_line.specs.declared.partial.Partial.{Partial}
 use Rattle.sds_line.specs.declared.place.Place.{Place}
@@ -11,12 +10,7 @@ use Rattle.sds_line.specs.Reading.{HalfLine, empty_line, with_byte, then_read, r
 use Rattle.sds_line.specs.Splitting.{LastLine, Split, and_then, split, one_byte, ended, is_end, numbered, refused, behind, line_at, line_begun, line_feeds, line_behind, text_end, lines_from}
 use Rattle.sds_line.proofs.Seams.{split_append}
 use Rattle.sds_line.proofs.Taken.{behind_then}
-
-eq_from : (a b : ℕ) → nat_eq a b ≡ true → a ≡ b
-eq_from a b e = grind (arith, nat_tests)
-
-le_no : (a b : ℕ) → b < a → nat_le a b ≡ false
-le_no a b h = grind (arith, nat_tests)
+use Rattle.sds_line.proofs.Comparisons.{le_no, le_yes, eq_zero_no, eq_from}
 
 -- a line feed that is taken stands inside quotes
 feed_inside : (place : Place) (partial : Partial) (text : List ℕ) (fields : List Field) (h : HalfLine) → nat_lt 0 partial.wanted ≡ false →
@@ -109,14 +103,8 @@ last_line number (b ∷ bytes) fields is short =
     = ap (λ (s : Split). and_then s text_end) (front_kept (b ∷ bytes) empty_line k.half number 0 0 k.goes (omega arith)) ∙ at_end (line_with number (0 + length (b ∷ bytes)) (0 + line_feeds (b ∷ bytes)) k.half) fields k.ends (omega arith) in
     (ap (λ (s : Split). s.lines) same, ap (λ (s : Split). s.stop) same)
   where
-    eq_zero_no : (n : ℕ) → 0 < n → nat_eq n 0 ≡ false
-    eq_zero_no n h = grind (arith, nat_tests)
-
     at_end : (u : LastLine) (fields' : List Field) → ended_line u.half ≡ Ok fields' → 0 < u.length → text_end u ≡ ended u (Ok fields')
     at_end u fields' ends h = rw (eq_zero_no u.length h, ends) refl
-
-le_yes : (a b : ℕ) → a ≤ b → nat_le a b ≡ true
-le_yes a b h = grind (arith, nat_tests)
 
 -- a front and a byte at which the line stops
 stopped_line : (number : ℕ) (front more : List ℕ) (b : ℕ) (half : HalfLine) (refusal : LineRefusal) → with_bytes empty_line front ≡ Ok half → length front ≤ 1048576 →
@@ -145,8 +133,5 @@ unended_line number front half refusal is some short stops =
     ∙ (at_stop (line_with number (0 + length front) (0 + line_feeds front) half) stops (omega arith)
     ∙ (λ i. refused (line_with number (zero-add (length front) i) (zero-add (line_feeds front) i) half) refusal))
   where
-    no_zero : (n : ℕ) → 0 < n → nat_eq n 0 ≡ false
-    no_zero n h = grind (arith, nat_tests)
-
     at_stop : (u : LastLine) → ended_line u.half ≡ Err refusal → 0 < u.length → text_end u ≡ refused u refusal
-    at_stop u stops' h = rw (no_zero u.length h, stops') refl
+    at_stop u stops' h = rw (eq_zero_no u.length h, stops') refl

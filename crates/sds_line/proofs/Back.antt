@@ -1,5 +1,5 @@
 -- What is written reads back.
-use Rattle.std.proofs.Common.{◌≡◌, ℕ, List, [], ◌∷◌, ◌++◌, refl, sym, ap, ◌∙◌, Bool, true, false, IsTrue, ◌&&◌, ◌||◌, nat_eq, Ok, append_assoc, if◌then◌else◌}
+use Rattle.std.proofs.Common.{◌≡◌, ℕ, List, [], ◌∷◌, ◌++◌, refl, sym, ap, ◌∙◌, Bool, true, false, IsTrue, ◌||◌, nat_eq, Ok, append_assoc, if◌then◌else◌}
 use Rattle.std.proofs.lemmas.List.{append-nil}
 use Rattle.std.specs.Str.{encode_utf8_all, all_scalars}
 use lib.Utf8.{scalar, encode}
@@ -11,11 +11,7 @@ use Rattle.sds_line.specs.Characters.{whole}
 use Rattle.sds_line.specs.Reading.{HalfLine, empty_line, rest_of_line, line_of}
 use Rattle.sds_line.specs.Written.{escaped, further_fields, written_line, has_form, are_fields}
 use Rattle.sds_line.proofs.Characters.{quoted, quoted_character}
-
-both : (a b : Bool) → (a && b) ≡ true → (a ≡ true) × (b ≡ true)
-both true true e = (refl, refl)
-both true false e = absurd (cc)
-both false b e = absurd (cc)
+use Rattle.sds_line.proofs.Comparisons.{both}
 
 pub escaped_append : (a b : List ℕ) → escaped (a ++ b) ≡ escaped a ++ escaped b
 escaped_append [] b = refl

@@ -1,5 +1,5 @@
 -- The UTF-8 of a character inside quotes is that character of the field.
-use Rattle.std.proofs.Common.{subst, ◌≡◌, ◌≢◌, ℕ, ◌+◌, ◌-◌, ◌*◌, ◌/◌, ◌%◌, ◌<◌, ◌≤◌, List, [], ◌∷◌, ◌++◌, refl, sym, ap, ◌∙◌, Bool, true, false, ◌||◌, ◌⊎◌, inl, inr, nat_eq, nat_lt, nat_le, Result, Ok, arith}
+use Rattle.std.proofs.Common.{subst, ◌≡◌, ℕ, ◌+◌, ◌-◌, ◌*◌, ◌/◌, ◌%◌, ◌<◌, ◌≤◌, List, [], ◌∷◌, ◌++◌, refl, sym, ap, ◌∙◌, Bool, true, false, ◌||◌, ◌⊎◌, inl, inr, nat_eq, Result, Ok, arith}
 use Rattle.std.proofs.lemmas.Bool.Decides.{nat_tests}
 use Rattle.std.proofs.lemmas.Str.{encode_ascii}
 use lib.Utf8.{scalar, scalar_cases, next, encode}
@@ -10,18 +10,7 @@ use Rattle.sds_line.specs.declared.place.Place.TheVariants.{Quoted, Escaped}
 use Rattle.sds_line.specs.Characters.{whole, lead_of, lowest, highest}
 use Rattle.sds_line.specs.Reading.{HalfLine, with_byte, then_read, rest_of_line}
 use Rattle.sds_line.specs.Written.{escaped}
-
-lt_no : (a b : ℕ) → b ≤ a → nat_lt a b ≡ false
-lt_no a b h = grind (arith, nat_tests)
-
-lt_yes : (a b : ℕ) → a < b → nat_lt a b ≡ true
-lt_yes a b h = grind (arith, nat_tests)
-
-le_yes : (a b : ℕ) → a ≤ b → nat_le a b ≡ true
-le_yes a b h = grind (arith, nat_tests)
-
-eq_no : (a b : ℕ) → a ≢ b → nat_eq a b ≡ false
-eq_no a b h = grind (arith, nat_tests)
+use Rattle.sds_line.proofs.Comparisons.{lt_no, lt_yes, le_yes, eq_no, order}
 
 -- inside quotes
 abbrev pub quoted : Partial → List ℕ → List Field → HalfLine
@@ -144,19 +133,6 @@ by_four : (c : ℕ) → scalar c ≡ true → (c < 55296) ⊎ ((57344 ≤ c) × 
 by_four c is_scalar (inl low) l = absurd (omega arith)
 by_four c is_scalar (inr high) l = let top : c < 1114112 = high.1 in subst (Reads c) (sym (ap escaped (four c l) ∙ unescaped_four (240 + c / 262144) (128 + (c / 4096) % 64) (128 + (c / 64) % 64) (128 + c % 64) (omega arith) (omega arith) (omega arith) (omega arith)))
     (λ text rest fields. bytes_four c (240 + c / 262144) (128 + (c / 4096) % 64) (128 + (c / 64) % 64) (128 + c % 64) text rest fields is_scalar (omega arith) (omega arith) (omega arith) (omega arith) (λ e. omega arith) (λ e. omega arith) (omega arith) (omega arith) (omega arith) (omega arith) (omega arith))
-
-lt_from : (m n : ℕ) → nat_lt m n ≡ true → m < n
-lt_from m n e = grind (arith, nat_tests)
-
-le_from : (m n : ℕ) → nat_lt m n ≡ false → n ≤ m
-le_from m n e = grind (arith, nat_tests)
-
-order : (m n : ℕ) → (m < n) ⊎ (n ≤ m)
-order m n = at (nat_lt m n) refl
-  where
-    at : (t : Bool) → nat_lt m n ≡ t → (m < n) ⊎ (n ≤ m)
-    at true e = inl (lt_from m n e)
-    at false e = inr (le_from m n e)
 
 by_range : (c : ℕ) → scalar c ≡ true → (c < 128) ⊎ (128 ≤ c) → (c < 2048) ⊎ (2048 ≤ c) → (c < 65536) ⊎ (65536 ≤ c) → Reads c (escaped (encode c))
 by_range c is_scalar (inl small) _ _ = subst (Reads c) (sym (ap escaped (encode_ascii c small))) (λ text rest fields. one_byte c text rest fields small (nat_eq c 34 || nat_eq c 92) refl)

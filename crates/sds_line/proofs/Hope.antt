@@ -1,5 +1,5 @@
 -- From each front of a line that is not refused some way to go on is a line.
-use Rattle.std.proofs.Common.{◌≡◌, ℕ, zero, suc, ◌+◌, ◌-◌, ◌*◌, ◌<◌, ◌≤◌, List, [], ◌∷◌, ◌++◌, refl, sym, ap, ◌∙◌, Bool, true, false, ◌&&◌, nat_lt, nat_le, Result, Ok, Err, arith, subst, if◌then◌else◌}
+use Rattle.std.proofs.Common.{◌≡◌, ℕ, zero, suc, ◌+◌, ◌-◌, ◌*◌, ◌<◌, ◌≤◌, List, [], ◌∷◌, ◌++◌, refl, sym, ap, ◌∙◌, Bool, true, false, nat_lt, nat_le, Result, Ok, Err, arith, subst, if◌then◌else◌}
 use Rattle.std.proofs.lemmas.Bool.Decides.{nat_tests}
 use lib.Utf8.{scalar}
 use Rattle.sds_value.specs.declared.row.Field.{Field}
@@ -13,29 +13,7 @@ use Rattle.sds_line.specs.declared.refusal.LineRefusal.TheVariants.{NotUtf8}
 use Rattle.sds_line.specs.Places.{act_of}
 use Rattle.sds_line.specs.Characters.{whole, is_lead, lead_of, lowest, highest, continues, next_of}
 use Rattle.sds_line.specs.Reading.{HalfLine, empty_line, with_byte, with_bytes, with_character, begun, gone_on, acted, then_read, then_go, rest_of_line, field_at, line_of}
-
-lt_no : (a b : ℕ) → b ≤ a → nat_lt a b ≡ false
-lt_no a b h = grind (arith, nat_tests)
-
-lt_yes : (a b : ℕ) → a < b → nat_lt a b ≡ true
-lt_yes a b h = grind (arith, nat_tests)
-
-le_yes : (a b : ℕ) → a ≤ b → nat_le a b ≡ true
-le_yes a b h = grind (arith, nat_tests)
-
-lt_from : (a b : ℕ) → nat_lt a b ≡ true → a < b
-lt_from a b e = grind (arith, nat_tests)
-
-ge_from : (a b : ℕ) → nat_lt a b ≡ false → b ≤ a
-ge_from a b e = grind (arith, nat_tests)
-
-le_from : (a b : ℕ) → nat_le a b ≡ true → a ≤ b
-le_from a b e = grind (arith, nat_tests)
-
-both : (a b : Bool) → (a && b) ≡ true → (a ≡ true) × (b ≡ true)
-both true true e = (refl, refl)
-both true false e = absurd (cc)
-both false b e = absurd (cc)
+use Rattle.sds_line.proofs.Comparisons.{lt_no, lt_yes, le_yes, lt_from, ge_from, le_from, both}
 
 -- Every way to go on within the ranges is a character, and there is one.
 abbrev pub Goes : ℕ → Partial → Type 0

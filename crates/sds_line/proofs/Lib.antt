@@ -1,3 +1,4 @@
+pub mod Comparisons
 pub mod Texts
 pub mod Fronts
 pub mod Seams

@@ -6,7 +6,7 @@ use Rattle.sds_line.specs.declared.lines.Phase.{Phase}
 use Rattle.sds_line.specs.declared.lines.Phase.TheVariants.{Open, Due, Over, Spent}
 use Rattle.sds_line.specs.declared.refusal.LineRefusal.{LineRefusal}
 use Rattle.sds_line.specs.declared.refusal.LineRefusal.TheVariants.{BareQuote, OpenQuote, BadEscape, LineTooLong, NotUtf8, NoMemory}
-use Rattle.sds_line.specs.Splitting.{LastLine, Split, Fed, Follows, Answers, and_then, behind, line_at, split, text_end, lines_in, left, next_of, without_first, is_settled, is_finished, is_spent}
+use Rattle.sds_line.specs.Splitting.{LastLine, Split, Fed, Follows, Answers, and_then, behind, line_at, split, lines_in, left, next_of, without_first, is_settled, is_finished, is_spent}
 use Rattle.sds_line.proofs.Seams.{split_append}
 
 pub behind_then : (taken : List Line) (s : Split) (f : LastLine → Split) → behind taken (and_then s f) ≡ and_then (behind taken s) f
@@ -27,15 +27,6 @@ follows_more Open s new text piece taken is f = record {
 follows_more Due s new text piece taken is f = let e = f.phase in absurd (cc)
 follows_more Over s new text piece taken is f = let e = f.phase in absurd (cc)
 follows_more Spent s new text piece taken is f = let e = f.whole in absurd (cc)
-
--- the end of the text
-pub follows_end : (s : Split) (text : List ℕ) (taken : List Line) (finished : Bool) → Follows text taken finished (record { phase = Open; split = s }) → Follows text taken true (record { phase = Due; split = s })
-follows_end s text taken true f = let e = f.phase in absurd (cc)
-follows_end s text taken false f = record {
-  reads = behind_then taken s text_end ∙ ap (λ (t : Split). and_then t text_end) f.reads;
-  phase = refl;
-  whole = refl;
-}
 
 -- the reader's own phase does not matter to what it has left
 settled_left : (phase : Phase) (s : Split) → is_settled phase ≡ true → left (record { phase = phase; split = s }) ≡ s

@@ -15,7 +15,7 @@ use std::alloc::Global;
 use std::marker::Model;
 use std::mem;
 
-/// For how many bytes the text of a field takes room at first: the least that allocators hand out.
+/// For how many bytes the text of a field takes room at first, which spares most fields a second growth.
 const FIRST_ROOM: usize = 24;
 
 /// A line of which a front has come.

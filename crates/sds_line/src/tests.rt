@@ -2,7 +2,10 @@
 ghost use Rattle.std.specs.Prelude.{◌≡◌, ◌<◌, ◌≤◌, ◌^◌, length, false};
 ghost use Rattle.sds_line.specs.Splitting.{reach, is_finished};
 
-use crate::{Line, LineRefusal, Lines, put_fields, read_line, written_reads_back};
+use crate::{
+    Line, LineRefusal, Lines, lines_are_read_alone, put_fields, read_line, refusals_come_first,
+    written_reads_back,
+};
 use sds_base::Txt;
 use sds_value::Field;
 use std::alloc::{AllocError, Global};
@@ -163,7 +166,16 @@ fn a_line_alone_has_these_fields(rt: HostRuntime) -> Result<(), Fail> {
             "{line:?}"
         );
     }
+    Ok(())
+}
+
+#[test]
+fn a_refusal_tells_its_cause(rt: HostRuntime) -> Result<(), Fail> {
+    let text = LineRefusal::OpenQuote.to_string(rt.alloc())?;
+    assert_eq!(rt; text.as_str(), "the text ends inside quotes");
     written_reads_back();
+    lines_are_read_alone();
+    refusals_come_first();
     Ok(())
 }
 
