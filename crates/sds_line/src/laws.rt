@@ -1,0 +1,37 @@
+ghost use Rattle.std.specs.Prelude.{◌≡◌, ◌+◌, ◌<◌, ◌≤◌, ◌++◌, ◌∷◌, [], ℕ, List, length, IsTrue, false, Ok, Err, None};
+ghost use Rattle.sds_value.specs.declared.row.Field.{Field};
+ghost use Rattle.sds_line.specs.declared.refusal.LineRefusal.{LineRefusal};
+ghost use Rattle.sds_line.specs.declared.refusal.LineRefusal.TheVariants.{LineTooLong};
+ghost use Rattle.sds_line.specs.Reading.{HalfLine, empty_line, with_byte, with_bytes, ended_line, line_of};
+ghost use Rattle.sds_line.specs.Splitting.{lines_from, line_feeds, line_begun, is_end, refused, numbered, behind};
+ghost use Rattle.sds_line.specs.Written.{written_line, has_form, are_fields};
+
+/// The law that the written form of fields reads back as those fields: of each list but the empty one and a lone null.
+pub fn written_reads_back()
+    ensures line { (fields : List Field) → IsTrue (are_fields fields) → IsTrue (has_form fields) → line_of (written_line fields) ≡ Ok fields }
+{}
+
+/// The law that the lines of a text are what its lines read as alone, each without its line feed.
+///
+/// Of a line that is read and is not too long: the lines behind it follow, numbered by its line feeds and the one that
+/// ends it. Of a front of a line that is not refused: a byte that ends no line is refused in a text as in a line alone,
+/// and any such byte is too much behind 1,048,576 bytes. Of the end of the text: it is refused as the end of a line is.
+pub fn lines_are_read_alone()
+    ensures whole { (number : ℕ) (line text : List ℕ) (fields : List Field) → line_of line ≡ Ok fields → length line ≤ 1048576
+        → lines_from number (line ++ 10 ∷ text) ≡ behind (numbered number fields) (lines_from (number + line_feeds line + 1) text) }
+    ensures last { (number : ℕ) (line : List ℕ) (fields : List Field) → line_of line ≡ Ok fields → length line ≤ 1048576
+        → ((lines_from number line).lines ≡ numbered number fields) × ((lines_from number line).stop ≡ None) }
+    ensures refused { (number : ℕ) (front more : List ℕ) (b : ℕ) (half : HalfLine) (refusal : LineRefusal) → with_bytes empty_line front ≡ Ok half → length front < 1048576
+        → is_end half b ≡ false → with_byte half b ≡ Err refusal → lines_from number (front ++ b ∷ more) ≡ refused (line_begun number front half) refusal }
+    ensures too_long { (number : ℕ) (front more : List ℕ) (b : ℕ) (half : HalfLine) → with_bytes empty_line front ≡ Ok half → length front ≡ 1048576
+        → is_end half b ≡ false → lines_from number (front ++ b ∷ more) ≡ refused (line_begun number front half) LineTooLong }
+    ensures unended { (number : ℕ) (front : List ℕ) (half : HalfLine) (refusal : LineRefusal) → with_bytes empty_line front ≡ Ok half → 0 < length front → length front ≤ 1048576
+        → ended_line half ≡ Err refusal → lines_from number front ≡ refused (line_begun number front half) refusal }
+{}
+
+/// The law that a refusal comes at the first byte from which on no way to go on is a line: behind it every line is
+/// refused for that cause, and before it some way to go on is a line.
+pub fn refusals_come_first()
+    ensures hopeless { (front more : List ℕ) (refusal : LineRefusal) → with_bytes empty_line front ≡ Err refusal → line_of (front ++ more) ≡ Err refusal }
+    ensures hopeful { (front : List ℕ) (half : HalfLine) → with_bytes empty_line front ≡ Ok half → (more : List ℕ) × (fields : List Field) × (line_of (front ++ more) ≡ Ok fields) }
+{}
