@@ -3,13 +3,22 @@
 #![tactic(auto)]
 
 mod config;
+mod channels;
 mod convert;
+mod fields;
+mod groups;
+mod links;
+mod named;
+mod refusal;
 mod route;
+mod sections;
+mod words;
 
 pub use config::{Action, Algorithm, ChannelDef, Config, LinkDef};
 pub use convert::{
     ColumnKind, ColumnPolicy, ConflictDef, DeleteAction, DetectType, Point, ResolveType,
     TransformColumn, TransformDef,
 };
+pub use refusal::ConfigRefusal;
 pub use route::{RouterDef, RouterKind, TriggerDef, TriggerRouterDef};
 pub use sds_value::{ColumnDef, TableDef};
