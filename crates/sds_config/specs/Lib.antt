@@ -6,3 +6,5 @@ pub mod Limits
 pub mod Groups
 pub mod Links
 pub mod Channels
+pub mod ColumnTexts
+pub mod TableEntries

@@ -2,6 +2,7 @@
 //! transforms and conflict settings. A number that stands for one of these is its place in its list, from 0.
 #![tactic(auto)]
 
+mod columns;
 mod config;
 mod channels;
 mod convert;
@@ -12,6 +13,7 @@ mod named;
 mod refusal;
 mod route;
 mod sections;
+mod tables;
 mod words;
 
 pub use config::{Action, Algorithm, ChannelDef, Config, LinkDef};

@@ -12,7 +12,7 @@ use toml::{Table, Value};
 
 /// An entry of a section.
 pub trait Entry: Drop {
-    ghost use Rattle.std.specs.Prelude.{List, ℕ, Result};
+    ghost use Rattle.std.specs.Prelude.{◌≤◌, List, ℕ, Result, length};
     ghost use Rattle.toml.specs.Data.{Members};
     ghost use Rattle.toml.specs.View.{table_view};
     ghost use Rattle.sds_config.specs.declared.config.Config.{Config};
@@ -30,7 +30,8 @@ pub trait Entry: Drop {
         table: &Table,
         at: &str,
     ) -> Result<Self, ConfigRefusal>
-        requires { IsWithinLimits config.now }
+        requires config { IsWithinLimits config.now }
+        requires earlier { length earlier.now ≤ 1024 }
         ensures { Answers result (entry_of config.now earlier.now (table_view table.now) at.now) };
 }
 
@@ -42,7 +43,8 @@ pub fn read_section<E: Entry>(
     section: &str,
     most: usize,
 ) -> Result<Vec<E>, ConfigRefusal>
-    requires { IsWithinLimits config.now }
+    requires config { IsWithinLimits config.now }
+    requires most { most ≤ 1024 }
     ensures answer { MatchResult result (λ v. wanted.section_of E.entry_of most section.now config.now (table_view file.now) ≡ Ok v.items) (Refuses (wanted.section_of E.entry_of most section.now config.now (table_view file.now))) }
     ensures bound { IfOk result (λ v. vec_len v ≤ most) }
 {
@@ -81,7 +83,8 @@ fn read_entries<E: Entry>(
     items: &[Value],
     section: &str,
 ) -> Result<Vec<E>, ConfigRefusal>
-    requires { IsWithinLimits config.now }
+    requires config { IsWithinLimits config.now }
+    requires most { length items.now ≤ 1024 }
     ensures answer { MatchResult result (λ v. wanted.entries_from E.entry_of config.now section.now [] (items_view items.now) ≡ Ok v.items) (Refuses (wanted.entries_from E.entry_of config.now section.now [] (items_view items.now))) }
     ensures bound { IfOk result (λ v. vec_len v ≤ length items.now) }
 {
@@ -100,7 +103,8 @@ fn read_entry<E: Entry>(
     value: &Value,
     section: &str,
 ) -> Result<E, ConfigRefusal>
-    requires { IsWithinLimits config.now }
+    requires config { IsWithinLimits config.now }
+    requires earlier { length earlier.now ≤ 1024 }
     ensures { Answers result (wanted.entry_at E.entry_of config.now section.now earlier.now (view value.now)) }
 {
     let at = entry_path(alloc, section, earlier.len())?;

@@ -1,4 +1,4 @@
-ghost use Rattle.std.specs.Prelude.{◌≡◌, ◌≤◌, true};
+ghost use Rattle.std.specs.Prelude.{◌≡◌, ◌≤◌, true, IfSome};
 ghost use Rattle.std.specs.List.{list_all};
 ghost use Rattle.std.specs.Char.{is_ascii_digit};
 ghost use Rattle.sds_expressions.specs.Numbers as wanted;
@@ -6,7 +6,8 @@ ghost use Rattle.sds_expressions.specs.Numbers as wanted;
 /// The number that a text writes plainly, where it is at most this: decimal digits, no sign, no leading zero.
 pub fn plain_number(text: &[u8], most: u32) -> Option<u32>
     requires { most ≤ 100000000 }
-    ensures { result ≡ wanted.plain_number most text.now }
+    ensures number { result ≡ wanted.plain_number most text.now }
+    ensures bound { IfSome result (λ number. number ≤ most) }
 {
     if !is_plain(text) {
         return None;
@@ -38,7 +39,8 @@ fn is_padded(text: &[u8]) -> bool
 fn number_up_to(digits: &[u8], most: u32) -> Option<u32>
     requires digits { list_all is_ascii_digit digits.now ≡ true }
     requires most { most ≤ 100000000 }
-    ensures { result ≡ wanted.up_to most (wanted.number_from 0 digits.now) }
+    ensures number { result ≡ wanted.up_to most (wanted.number_from 0 digits.now) }
+    ensures bound { IfSome result (λ number. number ≤ most) }
 {
     let mut number = 0;
     for digit in digits {
