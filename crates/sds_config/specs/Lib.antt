@@ -8,3 +8,7 @@ pub mod Links
 pub mod Channels
 pub mod ColumnTexts
 pub mod TableEntries
+pub mod Triggers
+pub mod TriggerRouters
+pub mod Conflicts
+pub mod Ends

@@ -1,5 +1,5 @@
 -- The section `table`: the tables with their columns.
-use Rattle.std.specs.Prelude.{ℕ, ◌+◌, ◌*◌, Bool, true, false, not, ◌&&◌, ◌==◌, nat_le, nat_lt, if◌then◌else◌, List, [], ◌∷◌, ◌++◌, length, map, codes, Option, Some, None, option_map, option_and_then, Result, Ok, Err}
+use Rattle.std.specs.Prelude.{ℕ, ◌+◌, ◌*◌, Bool, true, false, not, ◌&&◌, ◌==◌, nat_le, nat_lt, if◌then◌else◌, List, [], ◌∷◌, ◌++◌, length, map, codes, Option, Some, None, option_map, option_and_then, unwrap_or, Result, Ok, Err}
 use Rattle.std.specs.List.{list_any, list_all, slice_get}
 use Rattle.std.specs.Str.{bytes_eq, chars}
 use Rattle.toml.specs.Data.{Data, Items, no_items, item, Members, as_array, as_str}
@@ -89,10 +89,12 @@ refers_well earlier id columns column = elim column.reference [
 abbrev pub are_sound : List TableDef → List ℕ → List ColumnText → Bool
 are_sound earlier id columns = has_key columns && (nat_le (widths columns) 16000 && (are_distinct columns && list_all (refers_well earlier id columns) columns))
 
--- the place of the table that a sound column refers to
+-- the place of the table that a sound column refers to: an earlier table, or the table itself, which stands behind them
+abbrev pub parent_place : List TableDef → List ℕ → ℕ
+parent_place earlier name = unwrap_or (place_of (λ table. table.name) earlier name) (length earlier)
+
 abbrev pub parent_of : List TableDef → Option (List ℕ) → Option ℕ
-parent_of earlier None = None
-parent_of earlier (Some name) = elim (place_of (λ table. table.name) earlier name) [ Some place ↦ Some place | None ↦ Some (length earlier) ]
+parent_of earlier reference = option_map (parent_place earlier) reference
 
 abbrev pub column_of : List TableDef → ColumnText → ColumnDef
 column_of earlier column = record { name = column.name; kind = column.kind; not_null = column.not_null; parent = parent_of earlier column.reference }

@@ -8,7 +8,7 @@ ghost use Rattle.sds_config.specs.Refusals.{Answers};
 use crate::ConfigRefusal;
 use crate::named::{Named, place_of};
 use crate::words::Word;
-use sds_base::{NoMemory, Txt};
+use sds_base::{List, NoMemory, Txt};
 use sds_value::is_name;
 use std::alloc::Global;
 use toml::{Table, Value};
@@ -193,13 +193,13 @@ pub fn place_at<N: Named>(
     table: &Table,
     at: &str,
     key: &str,
-    entries: &[N],
+    entries: &List<N>,
 ) -> Result<u32, ConfigRefusal>
     requires { length entries.now ≤ 1024 }
     ensures { Answers result (wanted.place_at N.name_of entries.now (table_view table.now) at.now key.now) }
 {
     let name = name_at(alloc, table, at, key)?;
-    match place_of(entries, name.as_str()) {
+    match place_of(entries.inner().as_slice(), name.as_str()) {
         None => Err(ConfigRefusal::UnknownName(field_path(alloc, at, key)?)),
         Some(place) => Ok(place as u32),
     }

@@ -4,6 +4,10 @@
 
 mod columns;
 mod config;
+mod conflicts;
+mod ends;
+mod pairs;
+mod triggers;
 mod channels;
 mod convert;
 mod fields;

@@ -21,9 +21,8 @@ impl Entry for LinkDef {
         at: &str,
     ) -> Result<LinkDef, ConfigRefusal> {
         only_keys(alloc, table, at, &["source", "target", "action"])?;
-        let groups = config.groups.inner().as_slice();
-        let source = place_at(alloc, table, at, "source", groups)?;
-        let target = place_at(alloc, table, at, "target", groups)?;
+        let source = place_at(alloc, table, at, "source", &config.groups)?;
+        let target = place_at(alloc, table, at, "target", &config.groups)?;
         let action = word_at(alloc, table, at, "action")?;
         if leads(earlier, source, target) {
             return Err(ConfigRefusal::Duplicate(Txt::copied(alloc, at)?));

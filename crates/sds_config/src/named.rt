@@ -4,7 +4,7 @@ ghost use Rattle.sds_config.specs.Fields as wanted;
 
 use crate::{ChannelDef, RouterDef, TransformDef, TriggerDef};
 use sds_base::Txt;
-use sds_value::TableDef;
+use sds_value::{ColumnDef, TableDef};
 
 /// An entry that others name.
 pub trait Named {
@@ -34,6 +34,14 @@ impl Named for ChannelDef {
 
 impl Named for TableDef {
     ghost name_of = { λ table. table.name };
+
+    fn name(&self) -> &Txt {
+        &self.name
+    }
+}
+
+impl Named for ColumnDef {
+    ghost name_of = { λ column. column.name };
 
     fn name(&self) -> &Txt {
         &self.name

@@ -291,9 +291,16 @@ fn parent_of(earlier: &[TableDef], reference: &Option<Txt>) -> Option<u32>
 {
     match reference {
         None => None,
-        Some(name) => match place_of(earlier, name.as_str()) {
-            Some(place) => Some(place as u32),
-            None => Some(earlier.len() as u32),
-        },
+        Some(name) => Some(parent_place(earlier, name)),
+    }
+}
+
+fn parent_place(earlier: &[TableDef], name: &Txt) -> u32
+    requires { length earlier.now ≤ 1024 }
+    ensures { result ≡ wanted.parent_place earlier.now name.now }
+{
+    match place_of(earlier, name.as_str()) {
+        Some(place) => place as u32,
+        None => earlier.len() as u32,
     }
 }
