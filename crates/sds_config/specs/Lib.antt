@@ -12,3 +12,5 @@ pub mod Triggers
 pub mod TriggerRouters
 pub mod Conflicts
 pub mod Ends
+pub mod Routers
+pub mod Configuration
