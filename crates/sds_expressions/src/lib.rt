@@ -2,8 +2,12 @@
 //! with its definition.
 #![tactic(auto)]
 
+mod computed;
 mod numbers;
 mod pieces;
 
+pub use computed::{
+    NodeWord, Pair, Piece, left_of, multiplier_of, substr_of, value_map_of, variable_of,
+};
 pub use numbers::plain_number;
 pub use pieces::{behind, split_at};
