@@ -16,6 +16,7 @@ use Rattle.sds_config.specs.TableEntries.{table_of}
 use Rattle.sds_config.specs.Triggers.{trigger_of}
 use Rattle.sds_config.specs.Routers.{router_of}
 use Rattle.sds_config.specs.TriggerRouters.{trigger_router_of}
+use Rattle.sds_config.specs.Transforms.{transform_of}
 use Rattle.sds_config.specs.Conflicts.{conflict_of}
 
 -- a configuration before its first section is read
@@ -45,6 +46,10 @@ abbrev pub with_trigger_routers : Members → Config → Result Config ConfigRef
 with_trigger_routers file config = and_then (section_of trigger_router_of 1024 (codes "trigger_router") config file)
     (λ pairs. Ok (record config { trigger_routers = pairs }))
 
+abbrev pub with_transforms : Members → Config → Result Config ConfigRefusal
+with_transforms file config = and_then (section_of transform_of 256 (codes "transform") config file)
+    (λ transforms. Ok (record config { transforms = transforms }))
+
 abbrev pub with_conflicts : Members → Config → Result Config ConfigRefusal
 with_conflicts file config = and_then (section_of conflict_of 256 (codes "conflict") config file) (λ conflicts. Ok (record config { conflicts = conflicts }))
 
@@ -60,14 +65,19 @@ up_to_tables file =
     and_then (with_channels file config) (λ config.
     with_tables file config)))
 
--- and those behind them; the section `transform` is not judged yet
-abbrev pub all_sections : Members → Result Config ConfigRefusal
-all_sections file =
+-- and those behind them
+abbrev pub up_to_pairs : Members → Result Config ConfigRefusal
+up_to_pairs file =
     and_then (up_to_tables file) (λ config.
     and_then (with_triggers file config) (λ config.
     and_then (with_routers file config) (λ config.
-    and_then (with_trigger_routers file config) (λ config.
-    with_conflicts file config))))
+    with_trigger_routers file config)))
+
+abbrev pub all_sections : Members → Result Config ConfigRefusal
+all_sections file =
+    and_then (up_to_pairs file) (λ config.
+    and_then (with_transforms file config) (λ config.
+    with_conflicts file config))
 
 -- the configuration of a tree: the version is 1, no key is unlisted, and then section after section
 abbrev pub config_of : Members → Result Config ConfigRefusal

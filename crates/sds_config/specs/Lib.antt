@@ -14,3 +14,5 @@ pub mod Conflicts
 pub mod Ends
 pub mod Routers
 pub mod Configuration
+pub mod TransformColumns
+pub mod Transforms

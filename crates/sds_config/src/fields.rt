@@ -24,10 +24,17 @@ pub fn field<'a>(table: &'a Table, key: &str) -> Option<&'a Value>
 pub fn field_path(alloc: Global, at: &str, key: &str) -> Result<Txt, NoMemory>
     ensures { IfOk result (λ path. path ≡ chars (wanted.field_path at.now key.now)) }
 {
+    Ok(Txt::of(field_text(alloc, at, key)?))
+}
+
+/// The path of a field, as a string.
+pub fn field_text(alloc: Global, at: &str, key: &str) -> Result<String, NoMemory>
+    ensures { IfOk result (λ path. string_bytes path ≡ wanted.field_path at.now key.now) }
+{
     if at.is_empty() {
-        return Txt::copied(alloc, key);
+        return Ok(String::from_str(alloc, key)?);
     }
-    Ok(Txt::of(format!(in alloc; "{at}.{key}")?))
+    Ok(format!(in alloc; "{at}.{key}")?)
 }
 
 /// The path of an entry.

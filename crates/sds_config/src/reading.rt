@@ -39,11 +39,19 @@ pub fn read_file(alloc: Global, file: &Table) -> Result<Config, ConfigRefusal>
 fn all_sections(alloc: Global, file: &Table) -> Result<Config, ConfigRefusal>
     ensures { Answers result (wanted.all_sections (table_view file.now)) }
 {
+    let config = up_to_pairs(alloc, file)?;
+    let config = with_transforms(alloc, file, config)?;
+    with_conflicts(alloc, file, config)
+}
+
+fn up_to_pairs(alloc: Global, file: &Table) -> Result<Config, ConfigRefusal>
+    ensures answer { Answers result (wanted.up_to_pairs (table_view file.now)) }
+    ensures limits { IfOk result IsWithinLimits }
+{
     let config = up_to_tables(alloc, file)?;
     let config = with_triggers(alloc, file, config)?;
     let config = with_routers(alloc, file, config)?;
-    let config = with_trigger_routers(alloc, file, config)?;
-    with_conflicts(alloc, file, config)
+    with_trigger_routers(alloc, file, config)
 }
 
 fn up_to_tables(alloc: Global, file: &Table) -> Result<Config, ConfigRefusal>
@@ -140,6 +148,16 @@ fn with_trigger_routers(alloc: Global, file: &Table, mut config: Config) -> Resu
 {
     let entries = read_section(alloc, &config, file, "trigger_router", 1_024)?;
     config.trigger_routers = List::of(entries);
+    Ok(config)
+}
+
+fn with_transforms(alloc: Global, file: &Table, mut config: Config) -> Result<Config, ConfigRefusal>
+    requires { IsWithinLimits config }
+    ensures answer { Answers result (wanted.with_transforms (table_view file.now) config) }
+    ensures limits { IfOk result IsWithinLimits }
+{
+    let entries = read_section(alloc, &config, file, "transform", 256)?;
+    config.transforms = List::of(entries);
     Ok(config)
 }
 

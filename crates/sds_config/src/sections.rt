@@ -77,7 +77,8 @@ pub fn items_at<'a>(
     }
 }
 
-fn read_entries<E: Entry>(
+/// Reads the entries of a section's items.
+pub fn read_entries<E: Entry>(
     alloc: Global,
     config: &Config,
     items: &[Value],

@@ -3,11 +3,15 @@
 #![tactic(auto)]
 
 mod computed;
+mod letters;
+mod tested;
+mod tests_read;
 mod numbers;
 mod pieces;
 
 pub use computed::{
     NodeWord, Pair, Piece, left_of, multiplier_of, substr_of, value_map_of, variable_of,
 };
+pub use tested::{ColumnTest, Operand};
 pub use numbers::plain_number;
 pub use pieces::{behind, split_at};
