@@ -2,7 +2,7 @@ ghost use Rattle.std.specs.Prelude.{◌≡◌, ◌≢◌, IfOk, IfErr};
 
 use crate::reading::read_file;
 use crate::{ConfigRefusal, ConflictDef, RouterDef, TransformDef, TriggerDef, TriggerRouterDef};
-use sds_base::{List, Txt};
+use sds_base::{List, NoMemory, Twin, Txt};
 use sds_value::TableDef;
 use std::alloc::Global;
 
@@ -83,5 +83,12 @@ impl Config {
             Err(error) if error.is_memory() => Err(ConfigRefusal::NoMemory),
             Err(_) => Err(ConfigRefusal::NotToml),
         }
+    }
+
+    /// An equal configuration.
+    pub fn copy(&self, alloc: Global) -> Result<Config, NoMemory>
+        ensures { IfOk result (λ copy. copy ≡ self.now) }
+    {
+        self.twin(alloc)
     }
 }

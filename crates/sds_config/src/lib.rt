@@ -5,6 +5,7 @@
 mod columns;
 mod config;
 mod conflicts;
+mod copies;
 mod ends;
 mod formulas;
 mod rules;
@@ -23,6 +24,8 @@ mod routers;
 mod route;
 mod sections;
 mod tables;
+#[cfg(test)]
+mod tests;
 mod words;
 
 pub use config::{Action, Algorithm, ChannelDef, Config, LinkDef};

@@ -54,3 +54,43 @@ impl<T: Drop> From<AllocFailed<T>> for ConfigRefusal {
         ConfigRefusal::NoMemory
     }
 }
+
+impl ConfigRefusal {
+    ghost use Rattle.std.specs.Prelude.{option_copied};
+    ghost use Rattle.sds_config.specs.Refusals.{number_of, path_of};
+
+    /// The refusal's number, 1 to 9 in the order above. Want of memory has 0, since it is no statement about the file.
+    pub fn number(&self) -> u8
+        ensures { result ≡ number_of self.now }
+    {
+        match self {
+            ConfigRefusal::NotToml => 1,
+            ConfigRefusal::MissingEntry(_) => 2,
+            ConfigRefusal::WrongType(_) => 3,
+            ConfigRefusal::UnknownName(_) => 4,
+            ConfigRefusal::Duplicate(_) => 5,
+            ConfigRefusal::NoLink(_) => 6,
+            ConfigRefusal::BadExpression { .. } => 7,
+            ConfigRefusal::BadSetting(_) => 8,
+            ConfigRefusal::TooMany(_) => 9,
+            ConfigRefusal::NoMemory => 0,
+        }
+    }
+
+    /// The path of what is refused, or the id of the router whose expression is. A file that isn't TOML has none.
+    pub fn path(&self) -> Option<&Txt>
+        ensures { option_copied result ≡ path_of self.now }
+    {
+        match self {
+            ConfigRefusal::NotToml | ConfigRefusal::NoMemory => None,
+            ConfigRefusal::MissingEntry(path)
+            | ConfigRefusal::WrongType(path)
+            | ConfigRefusal::UnknownName(path)
+            | ConfigRefusal::Duplicate(path)
+            | ConfigRefusal::NoLink(path)
+            | ConfigRefusal::BadSetting(path)
+            | ConfigRefusal::TooMany(path) => Some(path),
+            ConfigRefusal::BadExpression { router, .. } => Some(router),
+        }
+    }
+}

@@ -34,7 +34,8 @@ fn is_empty(text: &Txt) -> bool
     text.is_empty()
 }
 
-fn has_column(table: &TableDef, name: &Txt) -> bool
+/// Whether the table has a column of this name.
+pub fn has_column(table: &TableDef, name: &Txt) -> bool
     ensures { result ≡ wanted.has_column table.now name.now }
 {
     table

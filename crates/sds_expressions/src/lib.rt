@@ -12,6 +12,7 @@ mod pieces;
 pub use computed::{
     NodeWord, Pair, Piece, left_of, multiplier_of, substr_of, value_map_of, variable_of,
 };
+pub use tests_read::column_tests;
 pub use tested::{ColumnTest, Operand};
 pub use numbers::plain_number;
 pub use pieces::{behind, split_at};
