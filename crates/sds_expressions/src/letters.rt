@@ -3,7 +3,7 @@ ghost use Rattle.std.specs.Str.{all_scalars, chars, encode_utf8_all};
 ghost use Rattle.std.specs.List.{starts_with};
 ghost use Rattle.sds_expressions.specs.ColumnTests as wanted;
 
-use sds_base::{NoMemory, Txt};
+use sds_base::{List, NoMemory, Txt};
 use std::alloc::Global;
 
 /// The characters of a text.
@@ -44,4 +44,13 @@ pub fn is_name_character(character: char) -> bool
     ensures { result ≡ wanted.is_name_character character }
 {
     character.is_ascii_alphanumeric() || character == '_' || character == '-'
+}
+
+/// The list of one character.
+pub fn one(alloc: Global, c: char) -> Result<List<char>, NoMemory>
+    ensures { IfOk result (λ list. list ≡ c ∷ []) }
+{
+    let mut list = List::new(alloc);
+    list.push(c)?;
+    Ok(list)
 }

@@ -2,7 +2,7 @@ ghost use Rattle.std.specs.Prelude.{◌≡◌, ◌∷◌, [], IfOk, if◌then◌
 ghost use Rattle.std.specs.Str.{chars};
 ghost use Rattle.sds_expressions.specs.ColumnTests as wanted;
 
-use crate::letters::{begins, characters_of, is_name_character, text_of};
+use crate::letters::{begins, characters_of, is_name_character, one, text_of};
 use crate::tested::{ColumnTest, Operand};
 use sds_base::{List, NoMemory};
 use std::alloc::Global;
@@ -333,14 +333,6 @@ fn test_of(alloc: Global, reading: &Reading, operand: Operand) -> Result<ColumnT
         differs: reading.differs,
         operand,
     })
-}
-
-fn one(alloc: Global, c: char) -> Result<List<char>, NoMemory>
-    ensures { IfOk result (λ list. list ≡ c ∷ []) }
-{
-    let mut list = List::new(alloc);
-    list.push(c)?;
-    Ok(list)
 }
 
 fn asks_old(name: &[char]) -> bool
