@@ -183,7 +183,8 @@ fn own_table(transform: &TransformDef) -> &Txt
     }
 }
 
-fn table_named<'a>(tables: &'a [TableDef], name: &Txt) -> Option<&'a TableDef>
+/// The table of this name.
+pub fn table_named<'a>(tables: &'a [TableDef], name: &Txt) -> Option<&'a TableDef>
     ensures { option_copied result ≡ wanted.table_named tables.now name.now }
 {
     match place_of(tables, name.as_str()) {
