@@ -27,12 +27,27 @@ varbinary_in_front text = option_map (λ (p : ℕ × List ℕ). (Varbinary p.0, 
 -- the kind that a text begins with, and what stands behind it
 abbrev pub kind_in_front : List ℕ → Option (Kind × List ℕ)
 kind_in_front text =
-    elim (behind (codes "INTEGER") text) [ Some rest ↦ Some (Integer, rest) | None ↦
-    elim (behind (codes "TIMESTAMP") text) [ Some rest ↦ Some (Timestamp, rest) | None ↦
-    elim (behind (codes "DECIMAL(") text) [ Some rest ↦ decimal_in_front rest | None ↦
-    elim (behind (codes "VARCHAR(") text) [ Some rest ↦ varchar_in_front rest | None ↦
-    elim (behind (codes "VARBINARY(") text) [ Some rest ↦ varbinary_in_front rest | None ↦
-    None ] ] ] ] ]
+    elim (behind (codes "INTEGER") text) [
+      | Some rest ↦ Some (Integer, rest)
+      | None ↦
+          elim (behind (codes "TIMESTAMP") text) [
+            | Some rest ↦ Some (Timestamp, rest)
+            | None ↦
+                elim (behind (codes "DECIMAL(") text) [
+                  | Some rest ↦ decimal_in_front rest
+                  | None ↦
+                      elim (behind (codes "VARCHAR(") text) [
+                        | Some rest ↦ varchar_in_front rest
+                        | None ↦
+                            elim (behind (codes "VARBINARY(") text) [
+                              | Some rest ↦ varbinary_in_front rest
+                              | None ↦
+                                  None
+                            ]
+                      ]
+                ]
+          ]
+    ]
 
 -- whether a mark stands in front, and what stands behind it
 abbrev pub mark_in_front : List ℕ → List ℕ → Bool × List ℕ
@@ -54,7 +69,7 @@ marked name kind text =
 abbrev pub column_text : List ℕ → Option ColumnText
 column_text text = option_and_then
     (λ (parts : List ℕ × List ℕ). if is_name_text (chars parts.0)
-      then option_and_then (λ (kind : Kind × List ℕ). marked parts.0 kind.0 kind.1) (kind_in_front parts.1) else None)
+    then option_and_then (λ (kind : Kind × List ℕ). marked parts.0 kind.0 kind.1) (kind_in_front parts.1) else None)
     (split_at 32 text)
 
 -- the columns so far and those of the texts that follow

@@ -72,13 +72,13 @@ abbrev pub whole_conflict : Config → List ConflictDef → List ℕ → List �
 whole_conflict config earlier at text conflict =
     if list_any (same_three conflict.source_group conflict.target_group conflict.target_table) earlier then Err (Duplicate (chars at))
     else (if leads config.links conflict.source_group conflict.target_group
-      then (if resolves conflict.detect_type conflict.resolve_type
-        then elim (named_column conflict.detect_type text config.tables conflict.target_table) [
-            None ↦ Err (BadSetting (chars at))
-          | Some column ↦ Ok (record conflict { detect_expression = column })
-          ]
-        else Err (BadSetting (chars at)))
-      else Err (NoLink (chars at)))
+    then (if resolves conflict.detect_type conflict.resolve_type
+    then elim (named_column conflict.detect_type text config.tables conflict.target_table) [
+      | None ↦ Err (BadSetting (chars at))
+      | Some column ↦ Ok (record conflict { detect_expression = column })
+    ]
+    else Err (BadSetting (chars at)))
+    else Err (NoLink (chars at)))
 
 -- how a conflict is seen: the type, and the text of the expression
 abbrev pub detect_at : Members → List ℕ → Result Detect ConfigRefusal

@@ -33,6 +33,6 @@ items_at most name value at key = and_then (typed (as_array value) at key)
 -- a section: absent it is empty; else it is an array, with at most so many entries
 abbrev pub section_of : {E : Type 0} → (Config → List E → Members → List ℕ → Result E ConfigRefusal) → ℕ → List ℕ → Config → Members → Result (List E) ConfigRefusal
 section_of entry_of most section config file = elim (get_member section file) [
-    None ↦ Ok []
+  | None ↦ Ok []
   | Some value ↦ and_then (items_at most section value [] section) (λ items. entries_from entry_of config section [] items)
-  ]
+]

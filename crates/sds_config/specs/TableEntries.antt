@@ -70,9 +70,9 @@ table_key_kind table = only_key_kind table table.key
 -- the kind of the only key column of the table that is referred to: an earlier table or the table itself
 abbrev pub referred_kind : List TableDef → List ℕ → List ColumnText → List ℕ → Option Kind
 referred_kind earlier id columns name = elim (place_of (λ table. table.name) earlier name) [
-    Some place ↦ option_and_then table_key_kind (slice_get earlier place)
+  | Some place ↦ option_and_then table_key_kind (slice_get earlier place)
   | None ↦ if bytes_eq id name then key_kind columns else None
-  ]
+]
 
 -- a column refers to no table, or to one whose primary key is one column of its kind
 abbrev pub is_kind : Kind → Option Kind → Bool
@@ -81,9 +81,9 @@ is_kind kind (Some other) = same_kind kind other
 
 abbrev pub refers_well : List TableDef → List ℕ → List ColumnText → ColumnText → Bool
 refers_well earlier id columns column = elim column.reference [
-    None ↦ true
+  | None ↦ true
   | Some name ↦ is_kind column.kind (referred_kind earlier id columns name)
-  ]
+]
 
 -- what has to hold of a table's columns
 abbrev pub are_sound : List TableDef → List ℕ → List ColumnText → Bool
@@ -110,7 +110,7 @@ whole_table earlier at id None = Err (BadSetting (chars at))
 whole_table earlier at id (Some columns) =
     if are_sound earlier id columns
     then (if nat_lt 64 (length columns) then Err (TooMany (chars at))
-      else Ok (record { name = id; columns = map (column_of earlier) columns; key = key_places 0 columns }))
+    else Ok (record { name = id; columns = map (column_of earlier) columns; key = key_places 0 columns }))
     else Err (BadSetting (chars at))
 
 abbrev pub table_of : Config → List TableDef → Members → List ℕ → Result TableDef ConfigRefusal

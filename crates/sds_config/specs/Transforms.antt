@@ -89,12 +89,12 @@ is_number kind = false
 -- a number may be added to the column of this name, which is no key column
 abbrev pub takes_sums : TableDef → List ℕ → Bool
 takes_sums table name = elim (place_of (λ column. column.name) table.columns name) [
-    None ↦ false
+  | None ↦ false
   | Some place ↦ elim (slice_get table.columns place) [
-      None ↦ false
+    | None ↦ false
     | Some column ↦ is_number column.kind && not (list_any (λ key. key == place) table.key)
-    ]
   ]
+]
 
 abbrev pub is_load : Point → Bool
 is_load Load = true
@@ -140,9 +140,9 @@ is_removed columns name = list_any (λ column. is_remove column.kind && bytes_eq
 -- a key column of the source that no `remove` takes away
 abbrev pub key_stays : TableDef → List TransformColumn → ℕ → Bool
 key_stays table columns place = elim (slice_get table.columns place) [
-    None ↦ false
+  | None ↦ false
   | Some key ↦ not (is_removed columns key.name)
-  ]
+]
 
 -- before a batch is written, at least one column is a key, or under the implied policy one of the source's keys stays
 abbrev pub has_keys : Point → ColumnPolicy → TableDef → List TransformColumn → Bool
@@ -197,10 +197,10 @@ policies_at entry at =
 -- its columns, which are at most 64
 abbrev pub columns_at : Config → Members → List ℕ → List ℕ → Result (List TransformColumn) ConfigRefusal
 columns_at config entry at key = elim (get_member key entry) [
-    None ↦ Ok []
+  | None ↦ Ok []
   | Some value ↦ and_then (items_at 64 (codes "transform.column") value at key)
       (λ items. entries_from transform_column_of config (field_path at key) [] items)
-  ]
+]
 
 abbrev pub transform_of : Config → List TransformDef → Members → List ℕ → Result TransformDef ConfigRefusal
 transform_of config earlier entry at =

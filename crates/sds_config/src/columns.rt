@@ -18,10 +18,7 @@ pub struct ColumnText {
 }
 
 /// The columns that the texts write, where each of them is the text of a column.
-pub fn columns_of(
-    alloc: Global,
-    texts: &[&str],
-) -> Result<Option<Vec<ColumnText>>, NoMemory>
+pub fn columns_of(alloc: Global, texts: &[&str]) -> Result<Option<Vec<ColumnText>>, NoMemory>
     ensures { IfOk result (λ columns. option_map (λ c. c.items) columns ≡ wanted.columns_from [] (map (λ t. t.now) texts.now)) }
 {
     let mut columns = Vec::new(alloc);
@@ -50,12 +47,7 @@ fn column_text(alloc: Global, text: &str) -> Result<Option<ColumnText>, NoMemory
     }
 }
 
-fn marked(
-    alloc: Global,
-    name: &str,
-    kind: Kind,
-    text: &str,
-) -> Result<Option<ColumnText>, NoMemory>
+fn marked(alloc: Global, name: &str, kind: Kind, text: &str) -> Result<Option<ColumnText>, NoMemory>
     ensures { IfOk result (λ column. column ≡ wanted.marked name.now kind text.now) }
 {
     let (not_null, rest) = mark_in_front(text, " NOT NULL");

@@ -126,7 +126,9 @@ impl Same for TriggerDef {
             && self.sync_on_insert.same(&other.sync_on_insert)
             && self.sync_on_update.same(&other.sync_on_update)
             && self.sync_on_delete.same(&other.sync_on_delete)
-            && self.sync_on_incoming_batch.same(&other.sync_on_incoming_batch)
+            && self
+                .sync_on_incoming_batch
+                .same(&other.sync_on_incoming_batch)
     }
 }
 

@@ -3,7 +3,9 @@ ghost use Rattle.toml.specs.View.{table_view};
 ghost use Rattle.sds_config.specs.Refusals.{Answers};
 ghost use Rattle.sds_config.specs.TransformColumns as wanted;
 
-use crate::fields::{field, field_path, flag_at, name_at, only_keys, text_at, text_or_empty, word_at};
+use crate::fields::{
+    field, field_path, flag_at, name_at, only_keys, text_at, text_or_empty, word_at,
+};
 use crate::sections::Entry;
 use crate::{ColumnKind, Config, ConfigRefusal, TransformColumn};
 use sds_base::Txt;

@@ -2,30 +2,30 @@
 //! transforms and conflict settings. A number that stands for one of these is its place in its list, from 0.
 #![tactic(auto)]
 
+mod channels;
 mod columns;
 mod config;
 mod conflicts;
+mod convert;
 mod copies;
 mod ends;
-mod formulas;
-mod rules;
-mod transforms;
-mod pairs;
-mod triggers;
-mod channels;
-mod convert;
 mod fields;
+mod formulas;
 mod groups;
 mod links;
 mod named;
+mod pairs;
 mod reading;
 mod refusal;
-mod routers;
 mod route;
+mod routers;
+mod rules;
 mod sections;
 mod tables;
 #[cfg(test)]
 mod tests;
+mod transforms;
+mod triggers;
 mod words;
 
 pub use config::{Action, Algorithm, ChannelDef, Config, LinkDef};

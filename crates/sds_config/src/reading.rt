@@ -141,7 +141,11 @@ fn with_routers(alloc: Global, file: &Table, mut config: Config) -> Result<Confi
     Ok(config)
 }
 
-fn with_trigger_routers(alloc: Global, file: &Table, mut config: Config) -> Result<Config, ConfigRefusal>
+fn with_trigger_routers(
+    alloc: Global,
+    file: &Table,
+    mut config: Config,
+) -> Result<Config, ConfigRefusal>
     requires { IsWithinLimits config }
     ensures answer { Answers result (wanted.with_trigger_routers (table_view file.now) config) }
     ensures limits { IfOk result IsWithinLimits }

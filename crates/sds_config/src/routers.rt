@@ -68,12 +68,7 @@ fn whole_router(
     Ok(router)
 }
 
-fn judge(
-    alloc: Global,
-    config: &Config,
-    at: &str,
-    router: &RouterDef,
-) -> Result<(), ConfigRefusal>
+fn judge(alloc: Global, config: &Config, at: &str, router: &RouterDef) -> Result<(), ConfigRefusal>
     ensures { Answers result (wanted.judged config.now at.now router.now router.now.kind) }
 {
     match router.kind {
@@ -93,12 +88,7 @@ fn judge(
     }
 }
 
-fn check(
-    alloc: Global,
-    at: &str,
-    id: &Txt,
-    known: Result<bool, usize>,
-) -> Result<(), ConfigRefusal>
+fn check(alloc: Global, at: &str, id: &Txt, known: Result<bool, usize>) -> Result<(), ConfigRefusal>
     ensures { Answers result (wanted.checked at.now id.now known) }
 {
     match known {
@@ -187,11 +177,7 @@ fn has_choice(tables: &List<TableDef>, table: Option<&TableDef>, choice: &Subsel
     }
 }
 
-fn has_conditions(
-    tables: &List<TableDef>,
-    table: &TableDef,
-    conditions: &List<Condition>,
-) -> bool
+fn has_conditions(tables: &List<TableDef>, table: &TableDef, conditions: &List<Condition>) -> bool
     ensures { result ≡ wanted.has_conditions tables.now table.now conditions.now }
 {
     conditions.inner().iter().all(|condition| {

@@ -46,20 +46,17 @@ pub fn has_column(table: &TableDef, name: &Txt) -> bool
 }
 
 /// Whether the transform keeps the rules on its columns.
-pub fn is_sound(
-    alloc: Global,
-    table: &TableDef,
-    transform: &TransformDef,
-) -> Result<bool, NoMemory>
+pub fn is_sound(alloc: Global, table: &TableDef, transform: &TransformDef) -> Result<bool, NoMemory>
     ensures { IfOk result (λ sound. sound ≡ wanted.is_sound table.now transform.now) }
 {
     let columns = transform.columns.inner().as_slice();
     let (point, policy) = (transform.point, transform.column_policy);
     let each = are_columns_sound(alloc, point, policy, table, columns)?;
-    Ok(each
-        && are_keys_few(columns)
-        && has_keys(point, policy, table, columns)
-        && are_apart(columns))
+    Ok(
+        each && are_keys_few(columns)
+            && has_keys(point, policy, table, columns)
+            && are_apart(columns),
+    )
 }
 
 fn are_columns_sound(
@@ -95,19 +92,20 @@ fn is_column_sound(
     ensures { IfOk result (λ sound. sound ≡ wanted.is_column_sound point policy table.now column.now) }
 {
     let formed = is_formed(alloc, column.kind, &column.expression)?;
-    Ok(are_events(column.include_on.as_str().as_bytes())
-        && suits_key(column)
-        && is_short(&column.expression)
-        && (!is_remove(column.kind) || is_implied(policy))
-        && (!is_additive(column.kind) || adds_well(point, table, column))
-        && formed)
+    Ok(
+        are_events(column.include_on.as_str().as_bytes())
+            && suits_key(column)
+            && is_short(&column.expression)
+            && (!is_remove(column.kind) || is_implied(policy))
+            && (!is_additive(column.kind) || adds_well(point, table, column))
+            && formed,
+    )
 }
 
 fn suits_key(column: &TransformColumn) -> bool
     ensures { result ≡ wanted.suits_key column.now }
 {
-    !column.pk
-        || (is_star(column.include_on.as_str().as_bytes()) && !is_remove(column.kind))
+    !column.pk || (is_star(column.include_on.as_str().as_bytes()) && !is_remove(column.kind))
 }
 
 /// Whether a text has at most 2,000 characters.

@@ -165,12 +165,7 @@ fn refer_well(earlier: &[TableDef], id: &Txt, columns: &[ColumnText]) -> bool
         .all(|column| refers_well(earlier, id, columns, column))
 }
 
-fn refers_well(
-    earlier: &[TableDef],
-    id: &Txt,
-    columns: &[ColumnText],
-    column: &ColumnText,
-) -> bool
+fn refers_well(earlier: &[TableDef], id: &Txt, columns: &[ColumnText], column: &ColumnText) -> bool
     ensures { result ≡ wanted.refers_well earlier.now id.now columns.now column.now }
 {
     match &column.reference {
@@ -182,12 +177,7 @@ fn refers_well(
     }
 }
 
-fn referred_kind(
-    earlier: &[TableDef],
-    id: &Txt,
-    columns: &[ColumnText],
-    name: &Txt,
-) -> Option<Kind>
+fn referred_kind(earlier: &[TableDef], id: &Txt, columns: &[ColumnText], name: &Txt) -> Option<Kind>
     ensures { result ≡ wanted.referred_kind earlier.now id.now columns.now name.now }
 {
     match place_of(earlier, name.as_str()) {
@@ -269,11 +259,7 @@ fn column_defs(
     Ok(columns)
 }
 
-fn column_def(
-    alloc: Global,
-    earlier: &[TableDef],
-    text: &ColumnText,
-) -> Result<ColumnDef, NoMemory>
+fn column_def(alloc: Global, earlier: &[TableDef], text: &ColumnText) -> Result<ColumnDef, NoMemory>
     requires { length earlier.now ≤ 1024 }
     ensures { IfOk result (λ column. column ≡ wanted.column_of earlier.now text.now) }
 {

@@ -72,7 +72,13 @@ fn told(alloc: Global, refusal: &ConfigRefusal) -> Result<String, NoMemory> {
 }
 
 /// The file with one text in place of another.
-fn changed(alloc: Global, rt: &impl Abort, file: &str, old: &str, new: &str) -> Result<String, NoMemory> {
+fn changed(
+    alloc: Global,
+    rt: &impl Abort,
+    file: &str,
+    old: &str,
+    new: &str,
+) -> Result<String, NoMemory> {
     match file.split_once(old) {
         Some((front, back)) => Ok(format!(in alloc; "{front}{new}{back}")?),
         None => {
@@ -83,7 +89,12 @@ fn changed(alloc: Global, rt: &impl Abort, file: &str, old: &str, new: &str) -> 
 }
 
 /// Each change of the file is answered so.
-fn expect(rt: &impl Abort, alloc: Global, file: &str, rows: &[(&str, &str, &str)]) -> Result<(), NoMemory> {
+fn expect(
+    rt: &impl Abort,
+    alloc: Global,
+    file: &str,
+    rows: &[(&str, &str, &str)],
+) -> Result<(), NoMemory> {
     for (old, new, wanted) in rows {
         let text = changed(alloc, rt, file, old, new)?;
         let got = answer(alloc, text.as_bytes())?;
@@ -111,7 +122,12 @@ fn a_configuration_has_what_the_file_says(rt: HostRuntime) -> Result<(), Fail> {
     let item = stock.columns.inner().as_slice().first().ok_or(NoMemory)?;
     assert_eq!(rt; item.parent, Some(0));
     assert!(rt; item.not_null);
-    let sum = config.transforms.inner().as_slice().first().ok_or(NoMemory)?;
+    let sum = config
+        .transforms
+        .inner()
+        .as_slice()
+        .first()
+        .ok_or(NoMemory)?;
     assert_eq!(rt; (sum.source_group, sum.target_group), (1, 0));
     let qty = sum.columns.inner().as_slice().first().ok_or(NoMemory)?;
     assert!(rt; qty.include_on.is("*") && qty.expression.is_empty() && !qty.pk);
@@ -166,16 +182,52 @@ fn groups_links_and_channels_are_judged(rt: HostRuntime) -> Result<(), Fail> {
             ("source=\"corp\", ", "", "2 link[0].source"),
             ("source=\"corp\", ", "source=\"nix\", ", "4 link[0].source"),
             ("action=\"P\"", "action=\"R\"", "8 link[0].action"),
-            ("action=\"P\"}", "action=\"P\"}, {source=\"corp\", target=\"store\", action=\"W\"}", "5 link[1]"),
-            ("processing_order=1,", "processing_order=1000001,", "8 channel[0].processing_order"),
-            ("processing_order=1,", "processing_order=-1,", "8 channel[0].processing_order"),
+            (
+                "action=\"P\"}",
+                "action=\"P\"}, {source=\"corp\", target=\"store\", action=\"W\"}",
+                "5 link[1]",
+            ),
+            (
+                "processing_order=1,",
+                "processing_order=1000001,",
+                "8 channel[0].processing_order",
+            ),
+            (
+                "processing_order=1,",
+                "processing_order=-1,",
+                "8 channel[0].processing_order",
+            ),
             ("processing_order=1,", "processing_order=1000000,", "ok"),
-            ("max_batch_size=10000,", "max_batch_size=0,", "8 channel[0].max_batch_size"),
-            ("max_batch_size=10000,", "max_batch_size=10001,", "8 channel[0].max_batch_size"),
-            ("max_batch_size=10000,", "max_batch_size=1.5,", "3 channel[0].max_batch_size"),
-            ("max_batch_to_send=10000,", "max_batch_to_send=0,", "8 channel[0].max_batch_to_send"),
-            ("batch_algorithm=\"default\"", "batch_algorithm=\"other\"", "8 channel[0].batch_algorithm"),
-            ("batch_algorithm=\"default\"", "batch_algorithm=\"transactional\"", "ok"),
+            (
+                "max_batch_size=10000,",
+                "max_batch_size=0,",
+                "8 channel[0].max_batch_size",
+            ),
+            (
+                "max_batch_size=10000,",
+                "max_batch_size=10001,",
+                "8 channel[0].max_batch_size",
+            ),
+            (
+                "max_batch_size=10000,",
+                "max_batch_size=1.5,",
+                "3 channel[0].max_batch_size",
+            ),
+            (
+                "max_batch_to_send=10000,",
+                "max_batch_to_send=0,",
+                "8 channel[0].max_batch_to_send",
+            ),
+            (
+                "batch_algorithm=\"default\"",
+                "batch_algorithm=\"other\"",
+                "8 channel[0].batch_algorithm",
+            ),
+            (
+                "batch_algorithm=\"default\"",
+                "batch_algorithm=\"transactional\"",
+                "ok",
+            ),
         ],
     )?;
     Ok(())
@@ -189,11 +241,19 @@ fn tables_are_judged(rt: HostRuntime) -> Result<(), Fail> {
         rt.alloc(),
         ONE,
         &[
-            (", columns=[\"id INTEGER KEY\", \"text VARCHAR(40)\"]", "", "2 table[0].columns"),
+            (
+                ", columns=[\"id INTEGER KEY\", \"text VARCHAR(40)\"]",
+                "",
+                "2 table[0].columns",
+            ),
             (columns, "7", "3 table[0].columns"),
             (columns, "[\"id INTEGER KEY\", 7]", "3 table[0].columns"),
             (columns, "[\"id INTEGER\"]", "8 table[0]"),
-            (columns, "[\"id INTEGER KEY\", \"id INTEGER\"]", "8 table[0]"),
+            (
+                columns,
+                "[\"id INTEGER KEY\", \"id INTEGER\"]",
+                "8 table[0]",
+            ),
             (columns, "[\"id INTEGER KEY NOT NULL\"]", "8 table[0]"),
             (columns, "[\"id  INTEGER KEY\"]", "8 table[0]"),
             (columns, "[\"id INTEGER NOT NULL KEY\"]", "ok"),
@@ -208,13 +268,41 @@ fn tables_are_judged(rt: HostRuntime) -> Result<(), Fail> {
             (columns, "[\"id TIMESTAMP KEY\"]", "ok"),
             (columns, "[\"id INTEGER KEY REF pair\"]", "ok"),
             (columns, "[\"id INTEGER KEY REF nix\"]", "8 table[0]"),
-            (columns, "[\"id INTEGER KEY\", \"up VARCHAR(4) REF pair\"]", "8 table[0]"),
-            (columns, "[\"a INTEGER KEY\", \"b INTEGER KEY\", \"up INTEGER REF pair\"]", "8 table[0]"),
-            (columns, "[\"a VARCHAR(2000) KEY\", \"b VARCHAR(2000)\", \"c VARBINARY(1)\"]", "8 table[0]"),
-            (columns, "[\"a VARCHAR(2000) KEY\", \"b VARCHAR(1999)\", \"c VARBINARY(4)\"]", "ok"),
-            ("\"text VARCHAR(40)\"]}", "\"text VARCHAR(40)\", \"next INTEGER REF late\"]}, {id=\"late\", columns=[\"id INTEGER KEY\"]}", "8 table[0]"),
-            ("\"text VARCHAR(40)\"]}", "\"text VARCHAR(40)\"]}, {id=\"late\", columns=[\"id INTEGER KEY REF pair\"]}", "ok"),
-            ("\"text VARCHAR(40)\"]}", "\"text VARCHAR(40)\"]}, {id=\"pair\", columns=[\"id INTEGER KEY REF pair\"]}", "5 table[1].id"),
+            (
+                columns,
+                "[\"id INTEGER KEY\", \"up VARCHAR(4) REF pair\"]",
+                "8 table[0]",
+            ),
+            (
+                columns,
+                "[\"a INTEGER KEY\", \"b INTEGER KEY\", \"up INTEGER REF pair\"]",
+                "8 table[0]",
+            ),
+            (
+                columns,
+                "[\"a VARCHAR(2000) KEY\", \"b VARCHAR(2000)\", \"c VARBINARY(1)\"]",
+                "8 table[0]",
+            ),
+            (
+                columns,
+                "[\"a VARCHAR(2000) KEY\", \"b VARCHAR(1999)\", \"c VARBINARY(4)\"]",
+                "ok",
+            ),
+            (
+                "\"text VARCHAR(40)\"]}",
+                "\"text VARCHAR(40)\", \"next INTEGER REF late\"]}, {id=\"late\", columns=[\"id INTEGER KEY\"]}",
+                "8 table[0]",
+            ),
+            (
+                "\"text VARCHAR(40)\"]}",
+                "\"text VARCHAR(40)\"]}, {id=\"late\", columns=[\"id INTEGER KEY REF pair\"]}",
+                "ok",
+            ),
+            (
+                "\"text VARCHAR(40)\"]}",
+                "\"text VARCHAR(40)\"]}, {id=\"pair\", columns=[\"id INTEGER KEY REF pair\"]}",
+                "5 table[1].id",
+            ),
         ],
     )?;
     Ok(())
@@ -228,30 +316,148 @@ fn triggers_routers_and_pairs_are_judged(rt: HostRuntime) -> Result<(), Fail> {
         alloc,
         ONE,
         &[
-            ("channel=\"data\"", "channel=\"nix\"", "4 trigger[0].channel"),
-            ("source_table=\"pair\"", "source_table=\"nix\"", "4 trigger[0].source_table"),
-            ("channel=\"data\"}", "channel=\"data\", sync_on_delete=0}", "3 trigger[0].sync_on_delete"),
-            ("channel=\"data\"}", "channel=\"data\"}, {id=\"more\", source_table=\"pair\", channel=\"data\"}", "5 trigger[1]"),
-            ("source_group=\"corp\", target_group=\"store\"", "source_group=\"store\", target_group=\"corp\"", "6 router[0]"),
-            ("source_group=\"corp\", target_group=\"store\"", "source_group=\"corp\", target_group=\"corp\"", "6 router[0]"),
+            (
+                "channel=\"data\"",
+                "channel=\"nix\"",
+                "4 trigger[0].channel",
+            ),
+            (
+                "source_table=\"pair\"",
+                "source_table=\"nix\"",
+                "4 trigger[0].source_table",
+            ),
+            (
+                "channel=\"data\"}",
+                "channel=\"data\", sync_on_delete=0}",
+                "3 trigger[0].sync_on_delete",
+            ),
+            (
+                "channel=\"data\"}",
+                "channel=\"data\"}, {id=\"more\", source_table=\"pair\", channel=\"data\"}",
+                "5 trigger[1]",
+            ),
+            (
+                "source_group=\"corp\", target_group=\"store\"",
+                "source_group=\"store\", target_group=\"corp\"",
+                "6 router[0]",
+            ),
+            (
+                "source_group=\"corp\", target_group=\"store\"",
+                "source_group=\"corp\", target_group=\"corp\"",
+                "6 router[0]",
+            ),
             ("type=\"default\"", "type=\"other\"", "8 router[0].type"),
-            ("type=\"default\"", "type=\"default\", expression=\"x\"", "8 router[0]"),
-            ("type=\"default\"", "type=\"default\", expression=\"\"", "ok"),
-            ("type=\"default\"", "type=\"column\", expression=\"id ~ 1\"", "7 down 3"),
-            ("type=\"default\"", "type=\"column\", expression=\"id = 1\"", "ok"),
-            ("type=\"default\"", "type=\"column\", expression=\"nix = 1\"", "4 router[0]"),
+            (
+                "type=\"default\"",
+                "type=\"default\", expression=\"x\"",
+                "8 router[0]",
+            ),
+            (
+                "type=\"default\"",
+                "type=\"default\", expression=\"\"",
+                "ok",
+            ),
+            (
+                "type=\"default\"",
+                "type=\"column\", expression=\"id ~ 1\"",
+                "7 down 3",
+            ),
+            (
+                "type=\"default\"",
+                "type=\"column\", expression=\"id = 1\"",
+                "ok",
+            ),
+            (
+                "type=\"default\"",
+                "type=\"column\", expression=\"nix = 1\"",
+                "4 router[0]",
+            ),
             ("type=\"default\"", "type=\"column\"", "7 down 0"),
-            ("router=\"down\"", "router=\"nix\"", "4 trigger_router[0].router"),
-            ("router=\"down\"}", "router=\"down\"}, {trigger=\"pair\", router=\"down\", enabled=false}", "5 trigger_router[1]"),
-            ("router=\"down\"}", "router=\"down\", enabled=1}", "3 trigger_router[0].enabled"),
+            (
+                "type=\"default\"",
+                "type=\"lookuptable\", expression=\"LOOKUP_TABLE=pair\\nKEY_COLUMN=id\\nLOOKUP_KEY_COLUMN=id\\nEXTERNAL_ID_COLUMN=text\"",
+                "ok",
+            ),
+            (
+                "type=\"default\"",
+                "type=\"lookuptable\", expression=\"LOOKUP_TABLE=nix\\nKEY_COLUMN=id\\nLOOKUP_KEY_COLUMN=id\\nEXTERNAL_ID_COLUMN=text\"",
+                "4 router[0]",
+            ),
+            (
+                "type=\"default\"",
+                "type=\"lookuptable\", expression=\"LOOKUP_TABLE=pair\\nKEY_COLUMN=nix\\nLOOKUP_KEY_COLUMN=id\\nEXTERNAL_ID_COLUMN=text\"",
+                "4 router[0]",
+            ),
+            (
+                "type=\"default\"",
+                "type=\"lookuptable\", expression=\"LOOKUP_TABLE=pair\\nKEY_COLUMN=id\\nLOOKUP_KEY_COLUMN=nix\\nEXTERNAL_ID_COLUMN=text\"",
+                "4 router[0]",
+            ),
+            (
+                "type=\"default\"",
+                "type=\"lookuptable\", expression=\"KEY_COLUMNS\"",
+                "7 down 10",
+            ),
+            (
+                "type=\"default\"",
+                "type=\"subselect\", expression=\"c.external_id in (select text from pair where id=:id)\"",
+                "ok",
+            ),
+            (
+                "type=\"default\"",
+                "type=\"subselect\", expression=\"c.external_id in (select text from nix where id=:id)\"",
+                "4 router[0]",
+            ),
+            (
+                "type=\"default\"",
+                "type=\"subselect\", expression=\"c.external_id in (select nix from pair where id=:id)\"",
+                "4 router[0]",
+            ),
+            (
+                "type=\"default\"",
+                "type=\"subselect\", expression=\"c.external_id in (select text from pair where nix=:id)\"",
+                "4 router[0]",
+            ),
+            (
+                "type=\"default\"",
+                "type=\"subselect\", expression=\"c.external_id in (select text from pair where id=:nix)\"",
+                "4 router[0]",
+            ),
+            (
+                "type=\"default\"",
+                "type=\"subselect\", expression=\"c.id\"",
+                "7 down 2",
+            ),
+            (
+                "router=\"down\"",
+                "router=\"nix\"",
+                "4 trigger_router[0].router",
+            ),
+            (
+                "router=\"down\"}",
+                "router=\"down\"}, {trigger=\"pair\", router=\"down\", enabled=false}",
+                "5 trigger_router[1]",
+            ),
+            (
+                "router=\"down\"}",
+                "router=\"down\", enabled=1}",
+                "3 trigger_router[0].enabled",
+            ),
         ],
     )?;
     Ok(())
 }
 
 /// A transform of ONE's table at the point, with these further fields, whose column has these fields.
-fn transformed(alloc: Global, point: &str, fields: &str, columns: &str) -> Result<String, NoMemory> {
-    Ok(format!(in alloc; "{ONE}[[transform]]\nid=\"t\"\nsource_group=\"corp\"\ntarget_group=\"store\"\npoint=\"{point}\"\nsource_table=\"pair\"\ntarget_table=\"pair\"\n{fields}\ncolumn=[{columns}]\n")?)
+fn transformed(
+    alloc: Global,
+    point: &str,
+    fields: &str,
+    columns: &str,
+) -> Result<String, NoMemory> {
+    Ok(format!(in alloc;
+        "{ONE}[[transform]]\nid=\"t\"\nsource_group=\"corp\"\ntarget_group=\"store\"\npoint=\"{point}\"\nsource_table=\"pair\"\ntarget_table=\"pair\"\n{fields}\ncolumn=[{columns}]\n"
+    )?)
 }
 
 #[test]
@@ -259,56 +465,243 @@ fn transforms_are_judged(rt: HostRuntime) -> Result<(), Fail> {
     let alloc = rt.alloc();
     let implied = "column_policy=\"IMPLIED\"";
     for (point, fields, columns, wanted) in [
-        ("LOAD", "", "{target=\"id\", type=\"const\", expression=\"1\"}", "ok"),
+        (
+            "LOAD",
+            "",
+            "{target=\"id\", type=\"const\", expression=\"1\"}",
+            "ok",
+        ),
         ("LATE", "", "", "8 transform[0].point"),
-        ("LOAD", "delete_action=\"NO\"", "", "8 transform[0].delete_action"),
+        (
+            "LOAD",
+            "delete_action=\"NO\"",
+            "",
+            "8 transform[0].delete_action",
+        ),
         ("LOAD", "", "{}", "2 transform[0].column[0].target"),
-        ("LOAD", "", "{target=\"id\", type=\"other\"}", "8 transform[0].column[0].type"),
-        ("LOAD", "", "{target=\"id\", source=\"a b\", type=\"copy\"}", "8 transform[0].column[0].source"),
-        ("LOAD", "", "{target=\"id\", source=\"\", type=\"copy\"}", "ok"),
-        ("LOAD", "", "{target=\"nix\", type=\"copy\"}", "4 transform[0]"),
+        (
+            "LOAD",
+            "",
+            "{target=\"id\", type=\"other\"}",
+            "8 transform[0].column[0].type",
+        ),
+        (
+            "LOAD",
+            "",
+            "{target=\"id\", source=\"a b\", type=\"copy\"}",
+            "8 transform[0].column[0].source",
+        ),
+        (
+            "LOAD",
+            "",
+            "{target=\"id\", source=\"\", type=\"copy\"}",
+            "ok",
+        ),
+        (
+            "LOAD",
+            "",
+            "{target=\"nix\", type=\"copy\"}",
+            "4 transform[0]",
+        ),
         ("LOAD", implied, "{target=\"nix\", type=\"remove\"}", "ok"),
-        ("LOAD", "", "{target=\"id\", type=\"remove\"}", "8 transform[0]"),
-        ("EXTRACT", "", "{target=\"nix\", source=\"id\", pk=true, type=\"copy\"}", "ok"),
-        ("EXTRACT", "", "{target=\"id\", source=\"nix\", pk=true, type=\"copy\"}", "4 transform[0]"),
-        ("EXTRACT", "", "{target=\"id\", source=\"id\", type=\"copy\"}", "8 transform[0]"),
-        ("EXTRACT", implied, "{target=\"id\", source=\"id\", type=\"copy\"}", "ok"),
-        ("EXTRACT", implied, "{target=\"id\", type=\"remove\"}", "8 transform[0]"),
-        ("LOAD", "", "{target=\"id\", type=\"copy\", include_on=\"IUD\"}", "ok"),
-        ("LOAD", "", "{target=\"id\", type=\"copy\", include_on=\"II\"}", "8 transform[0]"),
-        ("LOAD", "", "{target=\"id\", type=\"copy\", include_on=\"\"}", "8 transform[0]"),
-        ("LOAD", "", "{target=\"id\", type=\"copy\", include_on=\"*I\"}", "8 transform[0]"),
-        ("LOAD", "", "{target=\"id\", pk=true, type=\"copy\", include_on=\"IUD\"}", "8 transform[0]"),
-        ("LOAD", "", "{target=\"id\", type=\"left\", expression=\"2000\"}", "ok"),
-        ("LOAD", "", "{target=\"id\", type=\"left\", expression=\"2001\"}", "8 transform[0]"),
-        ("LOAD", "", "{target=\"id\", type=\"left\"}", "8 transform[0]"),
-        ("LOAD", "", "{target=\"id\", type=\"substr\", expression=\"1,5\"}", "ok"),
-        ("LOAD", "", "{target=\"id\", type=\"substr\", expression=\"1,5,6\"}", "8 transform[0]"),
-        ("LOAD", "", "{target=\"id\", type=\"valueMap\", expression=\"a=b *==\"}", "ok"),
-        ("LOAD", "", "{target=\"id\", type=\"valueMap\", expression=\"a=b  c=d\"}", "8 transform[0]"),
-        ("LOAD", "", "{target=\"id\", type=\"valueMap\"}", "8 transform[0]"),
-        ("LOAD", "", "{target=\"id\", type=\"variable\", expression=\"source_node_id\"}", "ok"),
-        ("LOAD", "", "{target=\"id\", type=\"variable\", expression=\"node\"}", "8 transform[0]"),
-        ("LOAD", "", "{target=\"id\", type=\"additive\"}", "8 transform[0]"),
-        ("LOAD", "", "{target=\"text\", type=\"additive\"}", "8 transform[0]"),
-        ("LOAD", "", "{target=\"id\", type=\"copy\", include_on=\"I\"}, {target=\"id\", type=\"const\", include_on=\"UD\"}", "ok"),
-        ("LOAD", "", "{target=\"id\", type=\"copy\", include_on=\"IU\"}, {target=\"id\", type=\"const\", include_on=\"UD\"}", "8 transform[0]"),
+        (
+            "LOAD",
+            "",
+            "{target=\"id\", type=\"remove\"}",
+            "8 transform[0]",
+        ),
+        (
+            "EXTRACT",
+            "",
+            "{target=\"nix\", source=\"id\", pk=true, type=\"copy\"}",
+            "ok",
+        ),
+        (
+            "EXTRACT",
+            "",
+            "{target=\"id\", source=\"nix\", pk=true, type=\"copy\"}",
+            "4 transform[0]",
+        ),
+        (
+            "EXTRACT",
+            "",
+            "{target=\"id\", source=\"id\", type=\"copy\"}",
+            "8 transform[0]",
+        ),
+        (
+            "EXTRACT",
+            implied,
+            "{target=\"id\", source=\"id\", type=\"copy\"}",
+            "ok",
+        ),
+        (
+            "EXTRACT",
+            implied,
+            "{target=\"id\", type=\"remove\"}",
+            "8 transform[0]",
+        ),
+        (
+            "LOAD",
+            "",
+            "{target=\"id\", type=\"copy\", include_on=\"IUD\"}",
+            "ok",
+        ),
+        (
+            "LOAD",
+            "",
+            "{target=\"id\", type=\"copy\", include_on=\"II\"}",
+            "8 transform[0]",
+        ),
+        (
+            "LOAD",
+            "",
+            "{target=\"id\", type=\"copy\", include_on=\"\"}",
+            "8 transform[0]",
+        ),
+        (
+            "LOAD",
+            "",
+            "{target=\"id\", type=\"copy\", include_on=\"*I\"}",
+            "8 transform[0]",
+        ),
+        (
+            "LOAD",
+            "",
+            "{target=\"id\", pk=true, type=\"copy\", include_on=\"IUD\"}",
+            "8 transform[0]",
+        ),
+        (
+            "LOAD",
+            "",
+            "{target=\"id\", type=\"left\", expression=\"2000\"}",
+            "ok",
+        ),
+        (
+            "LOAD",
+            "",
+            "{target=\"id\", type=\"left\", expression=\"2001\"}",
+            "8 transform[0]",
+        ),
+        (
+            "LOAD",
+            "",
+            "{target=\"id\", type=\"left\"}",
+            "8 transform[0]",
+        ),
+        (
+            "LOAD",
+            "",
+            "{target=\"id\", type=\"substr\", expression=\"1,5\"}",
+            "ok",
+        ),
+        (
+            "LOAD",
+            "",
+            "{target=\"id\", type=\"substr\", expression=\"1,5,6\"}",
+            "8 transform[0]",
+        ),
+        (
+            "LOAD",
+            "",
+            "{target=\"id\", type=\"valueMap\", expression=\"a=b *==\"}",
+            "ok",
+        ),
+        (
+            "LOAD",
+            "",
+            "{target=\"id\", type=\"valueMap\", expression=\"a=b  c=d\"}",
+            "8 transform[0]",
+        ),
+        (
+            "LOAD",
+            "",
+            "{target=\"id\", type=\"valueMap\"}",
+            "8 transform[0]",
+        ),
+        (
+            "LOAD",
+            "",
+            "{target=\"id\", type=\"variable\", expression=\"source_node_id\"}",
+            "ok",
+        ),
+        (
+            "LOAD",
+            "",
+            "{target=\"id\", type=\"variable\", expression=\"node\"}",
+            "8 transform[0]",
+        ),
+        (
+            "LOAD",
+            "",
+            "{target=\"id\", type=\"additive\"}",
+            "8 transform[0]",
+        ),
+        (
+            "LOAD",
+            "",
+            "{target=\"text\", type=\"additive\"}",
+            "8 transform[0]",
+        ),
+        (
+            "LOAD",
+            "",
+            "{target=\"id\", type=\"copy\", include_on=\"I\"}, {target=\"id\", type=\"const\", include_on=\"UD\"}",
+            "ok",
+        ),
+        (
+            "LOAD",
+            "",
+            "{target=\"id\", type=\"copy\", include_on=\"IU\"}, {target=\"id\", type=\"const\", include_on=\"UD\"}",
+            "8 transform[0]",
+        ),
     ] {
         let text = transformed(alloc, point, fields, columns)?;
-        assert_eq!(rt; answer(alloc, text.as_bytes())?.as_str(), wanted, "{point} {fields} {columns}");
+        assert_eq!(rt;
+            answer(alloc, text.as_bytes())?.as_str(),
+            wanted,
+            "{point} {fields} {columns}"
+        );
     }
     expect(
         &rt,
         alloc,
         SHOP,
         &[
-            ("type=\"additive\"", "type=\"additive\", expression=\"1000000\"", "ok"),
-            ("type=\"additive\"", "type=\"additive\", expression=\"1000001\"", "8 transform[0]"),
-            ("type=\"additive\"", "type=\"additive\", expression=\"-1000000\"", "ok"),
-            ("type=\"additive\"", "type=\"additive\", expression=\"-0\"", "8 transform[0]"),
-            ("type=\"additive\"", "type=\"additive\", pk=true", "8 transform[0]"),
-            ("source_group = \"store\"\ntarget_group = \"corp\"", "source_group = \"store\"\ntarget_group = \"store\"", "6 transform[0]"),
-            ("target_table = \"stock\"", "target_table = \"nix\"", "4 transform[0]"),
+            (
+                "type=\"additive\"",
+                "type=\"additive\", expression=\"1000000\"",
+                "ok",
+            ),
+            (
+                "type=\"additive\"",
+                "type=\"additive\", expression=\"1000001\"",
+                "8 transform[0]",
+            ),
+            (
+                "type=\"additive\"",
+                "type=\"additive\", expression=\"-1000000\"",
+                "ok",
+            ),
+            (
+                "type=\"additive\"",
+                "type=\"additive\", expression=\"-0\"",
+                "8 transform[0]",
+            ),
+            (
+                "type=\"additive\"",
+                "type=\"additive\", pk=true",
+                "8 transform[0]",
+            ),
+            (
+                "source_group = \"store\"\ntarget_group = \"corp\"",
+                "source_group = \"store\"\ntarget_group = \"store\"",
+                "6 transform[0]",
+            ),
+            (
+                "target_table = \"stock\"",
+                "target_table = \"nix\"",
+                "4 transform[0]",
+            ),
             ("source_table = \"stock\"", "source_table = \"nix\"", "ok"),
         ],
     )?;
@@ -318,7 +711,9 @@ fn transforms_are_judged(rt: HostRuntime) -> Result<(), Fail> {
 #[test]
 fn conflicts_are_judged(rt: HostRuntime) -> Result<(), Fail> {
     let alloc = rt.alloc();
-    let base = format!(in alloc; "{ONE}conflict=[{{source_group=\"corp\", target_group=\"store\", target_table=\"pair\", detect_type=\"USE_VERSION\", detect_expression=\"id\", resolve_type=\"NEWER_WINS\"}}]\n")?;
+    let base = format!(in alloc;
+        "{ONE}conflict=[{{source_group=\"corp\", target_group=\"store\", target_table=\"pair\", detect_type=\"USE_VERSION\", detect_expression=\"id\", resolve_type=\"NEWER_WINS\"}}]\n"
+    )?;
     expect(
         &rt,
         alloc,
@@ -331,10 +726,26 @@ fn conflicts_are_judged(rt: HostRuntime) -> Result<(), Fail> {
             ("\"id\", resolve", "\"text\", resolve", "8 conflict[0]"),
             ("\"id\", resolve", "\"nix\", resolve", "8 conflict[0]"),
             ("detect_expression=\"id\", ", "", "8 conflict[0]"),
-            ("target_table=\"pair\", detect", "target_table=\"nix\", detect", "4 conflict[0].target_table"),
-            ("conflict=[{source_group=\"corp\", target_group=\"store\"", "conflict=[{source_group=\"store\", target_group=\"corp\"", "6 conflict[0]"),
-            ("\"NEWER_WINS\"}]", "\"NEWER_WINS\"}, {source_group=\"corp\", target_group=\"store\", target_table=\"pair\", detect_type=\"USE_PK_DATA\", resolve_type=\"FALLBACK\"}]", "5 conflict[1]"),
-            ("\"NEWER_WINS\"}]", "\"NEWER_WINS\", resolve_row_only=\"no\"}]", "3 conflict[0].resolve_row_only"),
+            (
+                "target_table=\"pair\", detect",
+                "target_table=\"nix\", detect",
+                "4 conflict[0].target_table",
+            ),
+            (
+                "conflict=[{source_group=\"corp\", target_group=\"store\"",
+                "conflict=[{source_group=\"store\", target_group=\"corp\"",
+                "6 conflict[0]",
+            ),
+            (
+                "\"NEWER_WINS\"}]",
+                "\"NEWER_WINS\"}, {source_group=\"corp\", target_group=\"store\", target_table=\"pair\", detect_type=\"USE_PK_DATA\", resolve_type=\"FALLBACK\"}]",
+                "5 conflict[1]",
+            ),
+            (
+                "\"NEWER_WINS\"}]",
+                "\"NEWER_WINS\", resolve_row_only=\"no\"}]",
+                "3 conflict[0].resolve_row_only",
+            ),
         ],
     )?;
     Ok(())
@@ -347,13 +758,67 @@ fn the_first_of_two_faults_is_answered(rt: HostRuntime) -> Result<(), Fail> {
         rt.alloc(),
         ONE,
         &[
-            ("id=\"store\"}]\nlink = [{source=\"corp\"", "id=\"corp\"}]\nlink = [{source=\"nix\"", "5 group[1].id"),
+            (
+                "id=\"store\"}]\nlink = [{source=\"corp\"",
+                "id=\"corp\"}]\nlink = [{source=\"nix\"",
+                "5 group[1].id",
+            ),
             ("{id=\"store\"}", "{id=7, z=1}", "8 group[1].z"),
-            ("processing_order=1, max_batch_size=10000", "processing_order=-1, max_batch_size=0", "8 channel[0].processing_order"),
-            ("id=\"pair\", source_table=\"pair\"", "id=\"a b\", source_table=\"nix\"", "8 trigger[0].id"),
-            ("target_group=\"store\", type=\"default\"", "target_group=\"corp\", type=\"default\", expression=\"x\"", "6 router[0]"),
-            ("[{id=\"corp\"}, {id=\"store\"}]", "[{id=\"a b\"}, {id=7}]", "8 group[0].id"),
+            (
+                "processing_order=1, max_batch_size=10000",
+                "processing_order=-1, max_batch_size=0",
+                "8 channel[0].processing_order",
+            ),
+            (
+                "id=\"pair\", source_table=\"pair\"",
+                "id=\"a b\", source_table=\"nix\"",
+                "8 trigger[0].id",
+            ),
+            (
+                "target_group=\"store\", type=\"default\"",
+                "target_group=\"corp\", type=\"default\", expression=\"x\"",
+                "6 router[0]",
+            ),
+            (
+                "[{id=\"corp\"}, {id=\"store\"}]",
+                "[{id=\"a b\"}, {id=7}]",
+                "8 group[0].id",
+            ),
         ],
     )?;
+    Ok(())
+}
+
+/// So many items, each with its number between the two texts.
+fn many(alloc: Global, count: u32, front: &str, back: &str) -> Result<String, NoMemory> {
+    let mut list = String::from_str(alloc, "[")?;
+    for number in 0..count {
+        let item = format!(in alloc; "{front}{number}{back},")?;
+        list.push_str(item.as_str())?;
+    }
+    list.push_str("]")?;
+    Ok(list)
+}
+
+#[test]
+fn more_than_the_limit_is_too_many(rt: HostRuntime) -> Result<(), Fail> {
+    let alloc = rt.alloc();
+    for (count, wanted) in [(32, "ok"), (33, "9 group")] {
+        let groups = many(alloc, count, "{id=\"g", "\"}")?;
+        let file = format!(in alloc; "version=1\ngroup={groups}")?;
+        assert_eq!(rt; answer(alloc, file.as_bytes())?.as_str(), wanted);
+    }
+    for (count, wanted) in [(64, "ok"), (65, "9 table[0]")] {
+        let columns = many(alloc, count, "\"c", " INTEGER KEY\"")?;
+        let file = format!(in alloc; "version=1\ntable=[{{id=\"t\", columns={columns}}}]")?;
+        assert_eq!(rt; answer(alloc, file.as_bytes())?.as_str(), wanted);
+    }
+    for (count, wanted) in [(64, "4 transform[0]"), (65, "9 transform.column")] {
+        let columns = many(alloc, count, "{type=\"copy\", target=\"c", "\"}")?;
+        let file = transformed(alloc, "LOAD", "", columns.as_str())?;
+        let file = changed(alloc, &rt, file.as_str(), "column=[[", "column=[")?;
+        let file = changed(alloc, &rt, file.as_str(), ",]]", ",]")?;
+        assert_eq!(rt; answer(alloc, file.as_bytes())?.as_str(), wanted);
+    }
     Ok(())
 }

@@ -11,7 +11,9 @@ use crate::links::leads;
 use crate::named::place_of;
 use crate::rules::{is_known, is_sound};
 use crate::sections::{Entry, items_at, read_entries};
-use crate::{ColumnPolicy, Config, ConfigRefusal, DeleteAction, Point, TransformColumn, TransformDef};
+use crate::{
+    ColumnPolicy, Config, ConfigRefusal, DeleteAction, Point, TransformColumn, TransformDef,
+};
 use sds_base::{List, Txt};
 use sds_value::TableDef;
 use std::alloc::Global;

@@ -1,7 +1,8 @@
 ghost use Rattle.std.specs.Prelude.{◌≡◌};
 
 use crate::{
-    Action, Algorithm, ColumnKind, ColumnPolicy, DeleteAction, DetectType, Point, ResolveType, RouterKind,
+    Action, Algorithm, ColumnKind, ColumnPolicy, DeleteAction, DetectType, Point, ResolveType,
+    RouterKind,
 };
 
 /// A setting that the file writes as one of some words.

@@ -36,12 +36,12 @@ is_whole name = nat_le 1 (length (column_name name))
 -- the words behind a colon, and what each stands for
 abbrev pub operand_named : List ℕ → Option Operand
 operand_named word = if bytes_eq word (codes "NODE_ID") then Some NodeId
-  else (if bytes_eq word (codes "EXTERNAL_ID") then Some ExternalId
-  else (if bytes_eq word (codes "NODE_GROUP_ID") then Some NodeGroupId else None))
+    else (if bytes_eq word (codes "EXTERNAL_ID") then Some ExternalId
+    else (if bytes_eq word (codes "NODE_GROUP_ID") then Some NodeGroupId else None))
 
 abbrev pub begins_word : List ℕ → Bool
 begins_word front = starts_with (λ a b. a == b) (codes "NODE_ID") front
-  || (starts_with (λ a b. a == b) (codes "EXTERNAL_ID") front || starts_with (λ a b. a == b) (codes "NODE_GROUP_ID") front)
+    || (starts_with (λ a b. a == b) (codes "EXTERNAL_ID") front || starts_with (λ a b. a == b) (codes "NODE_GROUP_ID") front)
 
 -- a bare text, or the absence of a value
 abbrev pub bare_operand : List ℕ → Operand
@@ -68,24 +68,24 @@ with_test reading operand next = Some (record reading { tests = reading.tests ++
 abbrev pub ended : Reading → ℕ → Option Operand → Option Reading
 ended reading c None = None
 ended reading c (Some operand) = if c == 32 then with_test reading operand part.Behind
-  else (if c == 10 then with_test reading operand part.Fresh else None)
+    else (if c == 10 then with_test reading operand part.Fresh else None)
 
 -- before a test
 abbrev pub step_before : Reading → ℕ → Option Reading
 step_before reading c = if c == 32 then Some (at_part reading part.Before)
-  else (if is_name_character c then Some (record reading { name = c ∷ []; part = part.Name }) else None)
+    else (if is_name_character c then Some (record reading { name = c ∷ []; part = part.Name }) else None)
 
 -- behind a whole name
 abbrev pub step_named : Reading → ℕ → Option Reading
 step_named reading c = if c == 32 then Some (at_part reading part.Named)
-  else (if c == 61 then Some (record reading { differs = false; part = part.Sign })
-  else (if c == 33 then Some (at_part reading part.Bang) else None))
+    else (if c == 61 then Some (record reading { differs = false; part = part.Sign })
+    else (if c == 33 then Some (at_part reading part.Bang) else None))
 
 -- in a name
 abbrev pub step_name : Reading → ℕ → Option Reading
 step_name reading c = if is_name_character c
-  then (if is_short (reading.name ++ c ∷ []) then Some (record reading { name = reading.name ++ c ∷ [] }) else None)
-  else (if is_whole reading.name then step_named reading c else None)
+    then (if is_short (reading.name ++ c ∷ []) then Some (record reading { name = reading.name ++ c ∷ [] }) else None)
+    else (if is_whole reading.name then step_named reading c else None)
 
 -- between `!` and `=`
 abbrev pub step_bang : Reading → ℕ → Option Reading
@@ -94,19 +94,19 @@ step_bang reading c = if c == 61 then Some (record reading { differs = true; par
 -- before a value
 abbrev pub step_sign : Reading → ℕ → Option Reading
 step_sign reading c = if c == 32 then Some reading
-  else (if c == 39 then Some (record reading { text = []; part = part.Quoted })
-  else (if c == 58 then Some (record reading { text = []; part = part.Colon })
-  else (if is_bare_character c then Some (record reading { text = c ∷ []; part = part.Bare }) else None)))
+    else (if c == 39 then Some (record reading { text = []; part = part.Quoted })
+    else (if c == 58 then Some (record reading { text = []; part = part.Colon })
+    else (if is_bare_character c then Some (record reading { text = c ∷ []; part = part.Bare }) else None)))
 
 -- in a word behind a colon
 abbrev pub step_colon : Reading → ℕ → Option Reading
 step_colon reading c = if begins_word (reading.text ++ c ∷ []) then Some (record reading { text = reading.text ++ c ∷ [] })
-  else ended reading c (operand_at part.Colon reading.text)
+    else ended reading c (operand_at part.Colon reading.text)
 
 -- in a bare text
 abbrev pub step_bare : Reading → ℕ → Option Reading
 step_bare reading c = if is_bare_character c then Some (record reading { text = reading.text ++ c ∷ [] })
-  else ended reading c (operand_at part.Bare reading.text)
+    else ended reading c (operand_at part.Bare reading.text)
 
 -- between quotes, and behind a quote that ends the text or is the first of two
 abbrev pub step_quoted : Reading → ℕ → Option Reading
@@ -114,12 +114,12 @@ step_quoted reading c = if c == 39 then Some (at_part reading part.Quote) else S
 
 abbrev pub step_quote : Reading → ℕ → Option Reading
 step_quote reading c = if c == 39 then Some (record reading { text = reading.text ++ c ∷ []; part = part.Quoted })
-  else ended reading c (operand_at part.Quote reading.text)
+    else ended reading c (operand_at part.Quote reading.text)
 
 -- behind a test and a space
 abbrev pub step_behind : Reading → ℕ → Option Reading
 step_behind reading c = if c == 32 then Some reading
-  else (if c == 10 then Some (at_part reading part.Fresh) else (if c == 111 then Some (at_part reading part.Letter) else None))
+    else (if c == 10 then Some (at_part reading part.Fresh) else (if c == 111 then Some (at_part reading part.Letter) else None))
 
 -- in ` or `
 abbrev pub step_letter : Reading → ℕ → Option Reading

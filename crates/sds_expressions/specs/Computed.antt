@@ -15,9 +15,9 @@ left_of text = plain_number 2000 text
 -- one number, or two that a comma joins
 abbrev pub substr_of : List ℕ → Option Piece
 substr_of text = elim (split_at 44 text) [
-    None ↦ option_map (λ from. record { first = from; end = None }) (left_of text)
+  | None ↦ option_map (λ from. record { first = from; end = None }) (left_of text)
   | Some parts ↦ option_and_then (λ from. option_map (λ to. record { first = from; end = Some to }) (left_of parts.1)) (left_of parts.0)
-  ]
+]
 
 -- a pair is divided at its first `=`
 abbrev pub pair_of : List ℕ → Option Pair
@@ -35,7 +35,7 @@ value_map_of text = pairs_from [] (split 32 text)
 -- one of the two words
 abbrev pub variable_of : List ℕ → Option NodeWord
 variable_of text = if bytes_eq text (codes "source_node_id") then Some SourceNode
-  else (if bytes_eq text (codes "target_node_id") then Some TargetNode else None)
+    else (if bytes_eq text (codes "target_node_id") then Some TargetNode else None)
 
 -- a number with `-` before it, which isn't 0
 abbrev pub negative_of : List ℕ → Option ℤ

@@ -37,13 +37,13 @@ begins_key reading word key = is_open reading key && starts_with (λ a b. a == b
 
 abbrev pub key_of : Reading → List ℕ → Option Key
 key_of reading word = if is_key reading word Table then Some Table
-  else (if is_key reading word Column then Some Column
-  else (if is_key reading word LookupColumn then Some LookupColumn
-  else (if is_key reading word ExternalId then Some ExternalId else None)))
+    else (if is_key reading word Column then Some Column
+    else (if is_key reading word LookupColumn then Some LookupColumn
+    else (if is_key reading word ExternalId then Some ExternalId else None)))
 
 abbrev pub begins : Reading → List ℕ → Bool
 begins reading word = begins_key reading word Table
-  || (begins_key reading word Column || (begins_key reading word LookupColumn || begins_key reading word ExternalId))
+    || (begins_key reading word Column || (begins_key reading word LookupColumn || begins_key reading word ExternalId))
 
 -- a line is read
 abbrev pub with_line : Key → Reading → List ℕ → Reading
@@ -80,8 +80,8 @@ next_line reading = record reading { word = []; part = part_behind (lookup_of re
 -- in a name
 abbrev pub step_name : Reading → ℕ → Option Reading
 step_name reading c = if is_name_character c
-  then (if nat_lt (length reading.word) 50 then Some (record reading { word = reading.word ++ c ∷ [] }) else None)
-  else (if c == 10 && nat_lt 0 (length reading.word) then Some (next_line (with_line reading.key reading reading.word)) else None)
+    then (if nat_lt (length reading.word) 50 then Some (record reading { word = reading.word ++ c ∷ [] }) else None)
+    else (if c == 10 && nat_lt 0 (length reading.word) then Some (next_line (with_line reading.key reading reading.word)) else None)
 
 abbrev pub step_at : Part → Reading → ℕ → Option Reading
 step_at part.Key reading c = step_key reading c

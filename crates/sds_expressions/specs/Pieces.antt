@@ -9,7 +9,7 @@ behind front text = if starts_with (λ a b. a == b) text front then Some (drop (
 -- what stands before the first such byte and behind it, where there is one
 abbrev pub split_at : ℕ → List ℕ → Option (List ℕ × List ℕ)
 split_at mark text = if nat_lt (position_or_len (λ b. b == mark) text) (length text)
-  then Some (before_first (λ b. b == mark) text, after_first (λ b. b == mark) text) else None
+    then Some (before_first (λ b. b == mark) text, after_first (λ b. b == mark) text) else None
 
 -- a byte in front of the first piece
 abbrev pub onto_first : ℕ → List (List ℕ) → List (List ℕ)

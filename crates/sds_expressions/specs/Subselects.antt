@@ -84,11 +84,11 @@ sign mark next reading c = if is_spacing c then Some reading else (if c == mark 
 -- before a keyword, and before a name
 abbrev pub before_keyword : Reading → ℕ → Option Reading
 before_keyword reading c = if is_spacing c then Some (record reading { spaced = true })
-  else (if reading.spaced && begins_keyword reading.slot (to_ascii_lowercase c ∷ []) then Some (record reading { word = to_ascii_lowercase c ∷ [] }) else None)
+    else (if reading.spaced && begins_keyword reading.slot (to_ascii_lowercase c ∷ []) then Some (record reading { word = to_ascii_lowercase c ∷ [] }) else None)
 
 abbrev pub before_name : Reading → ℕ → Option Reading
 before_name reading c = if is_spacing c then Some (record reading { spaced = true })
-  else (if reading.spaced && is_name_character c then Some (record reading { word = c ∷ [] }) else None)
+    else (if reading.spaced && is_name_character c then Some (record reading { word = c ∷ [] }) else None)
 
 -- behind a condition: `and`, or the closing parenthesis
 abbrev pub before_next : Reading → ℕ → Option Reading
@@ -97,8 +97,8 @@ before_next reading c = if c == 41 then Some (moved reading slot.Close true) els
 -- before the value of a condition
 abbrev pub before_value : Reading → ℕ → Option Reading
 before_value reading c = if is_spacing c then Some reading
-  else (if c == 58 then Some (moved reading slot.Routed true)
-  else (if c == 39 then Some (moved reading slot.Quoted true) else None))
+    else (if c == 58 then Some (moved reading slot.Routed true)
+    else (if c == 39 then Some (moved reading slot.Quoted true) else None))
 
 -- behind the closing parenthesis
 abbrev pub behind_all : Reading → ℕ → Option Reading
@@ -128,18 +128,18 @@ fresh reading c = fresh_at reading.slot reading c
 -- in a name, and in a keyword
 abbrev pub in_name : Reading → ℕ → Option Reading
 in_name reading c = if is_name_character c
-  then (if nat_lt (length reading.word) 50 then Some (record reading { word = reading.word ++ c ∷ [] }) else None)
-  else fresh (finished_at reading.slot reading) c
+    then (if nat_lt (length reading.word) 50 then Some (record reading { word = reading.word ++ c ∷ [] }) else None)
+    else fresh (finished_at reading.slot reading) c
 
 abbrev pub in_keyword : Reading → ℕ → Option Reading
 in_keyword reading c = if begins_keyword reading.slot (reading.word ++ to_ascii_lowercase c ∷ [])
-  then Some (record reading { word = reading.word ++ to_ascii_lowercase c ∷ [] })
-  else (if is_keyword reading.slot reading.word then fresh (finished_at reading.slot reading) c else None)
+    then Some (record reading { word = reading.word ++ to_ascii_lowercase c ∷ [] })
+    else (if is_keyword reading.slot reading.word then fresh (finished_at reading.slot reading) c else None)
 
 -- behind a quote that ends the text or is the first of two
 abbrev pub behind_quote : Reading → ℕ → Option Reading
 behind_quote reading c = if c == 39 then Some (record reading { word = reading.word ++ c ∷ []; slot = slot.Quoted })
-  else fresh (with_condition reading (Text reading.word) true) c
+    else fresh (with_condition reading (Text reading.word) true) c
 
 -- outside quotes
 abbrev pub outside : List ℕ → Reading → ℕ → Option Reading

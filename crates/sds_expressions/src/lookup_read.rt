@@ -8,10 +8,19 @@ use crate::lookup::Lookup;
 use sds_base::{List, NoMemory, Txt};
 use std::alloc::Global;
 
-const TABLE: [char; 13] = ['L', 'O', 'O', 'K', 'U', 'P', '_', 'T', 'A', 'B', 'L', 'E', '='];
+const TABLE: [char; 13] = [
+    'L', 'O', 'O', 'K', 'U', 'P', '_', 'T', 'A', 'B', 'L', 'E', '=',
+];
+
 const COLUMN: [char; 11] = ['K', 'E', 'Y', '_', 'C', 'O', 'L', 'U', 'M', 'N', '='];
-const LOOKUP_COLUMN: [char; 18] = ['L', 'O', 'O', 'K', 'U', 'P', '_', 'K', 'E', 'Y', '_', 'C', 'O', 'L', 'U', 'M', 'N', '='];
-const EXTERNAL_ID: [char; 19] = ['E', 'X', 'T', 'E', 'R', 'N', 'A', 'L', '_', 'I', 'D', '_', 'C', 'O', 'L', 'U', 'M', 'N', '='];
+
+const LOOKUP_COLUMN: [char; 18] = [
+    'L', 'O', 'O', 'K', 'U', 'P', '_', 'K', 'E', 'Y', '_', 'C', 'O', 'L', 'U', 'M', 'N', '=',
+];
+
+const EXTERNAL_ID: [char; 19] = [
+    'E', 'X', 'T', 'E', 'R', 'N', 'A', 'L', '_', 'I', 'D', '_', 'C', 'O', 'L', 'U', 'M', 'N', '=',
+];
 
 /// The keys of a `lookuptable` router's expression.
 #[derive(Clone, Copy, Debug)]

@@ -8,12 +8,19 @@ use sds_base::{List, NoMemory};
 use std::alloc::Global;
 
 const NODE: [char; 1] = ['c'];
+
 const EXTERNAL_ID: [char; 11] = ['e', 'x', 't', 'e', 'r', 'n', 'a', 'l', '_', 'i', 'd'];
+
 const NODE_ID: [char; 7] = ['n', 'o', 'd', 'e', '_', 'i', 'd'];
+
 const IN: [char; 2] = ['i', 'n'];
+
 const SELECT: [char; 6] = ['s', 'e', 'l', 'e', 'c', 't'];
+
 const FROM: [char; 4] = ['f', 'r', 'o', 'm'];
+
 const WHERE: [char; 5] = ['w', 'h', 'e', 'r', 'e'];
+
 const AND: [char; 3] = ['a', 'n', 'd'];
 
 /// Where the reading of a `subselect` router's expression stands: at a keyword, a sign, a name or a value.

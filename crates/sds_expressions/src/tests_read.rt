@@ -8,8 +8,13 @@ use sds_base::{List, NoMemory};
 use std::alloc::Global;
 
 const NODE_ID: [char; 7] = ['N', 'O', 'D', 'E', '_', 'I', 'D'];
+
 const EXTERNAL_ID: [char; 11] = ['E', 'X', 'T', 'E', 'R', 'N', 'A', 'L', '_', 'I', 'D'];
-const NODE_GROUP_ID: [char; 13] = ['N', 'O', 'D', 'E', '_', 'G', 'R', 'O', 'U', 'P', '_', 'I', 'D'];
+
+const NODE_GROUP_ID: [char; 13] = [
+    'N', 'O', 'D', 'E', '_', 'G', 'R', 'O', 'U', 'P', '_', 'I', 'D',
+];
+
 const NULL: [char; 4] = ['N', 'U', 'L', 'L'];
 
 /// Where the reading of a `column` router's expression stands.
@@ -60,10 +65,7 @@ pub fn column_tests(alloc: Global, text: &str) -> Result<Result<List<ColumnTest>
     read_tests(alloc, characters.as_slice())
 }
 
-fn read_tests(
-    alloc: Global,
-    text: &[char],
-) -> Result<Result<List<ColumnTest>, usize>, NoMemory>
+fn read_tests(alloc: Global, text: &[char]) -> Result<Result<List<ColumnTest>, usize>, NoMemory>
     ensures { IfOk result (λ read. read ≡ wanted.tests_of text.now) }
 {
     let mut reading = beginning(alloc);
