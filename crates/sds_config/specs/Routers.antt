@@ -18,6 +18,8 @@ use Rattle.sds_config.specs.declared.ends.Ends.{Ends}
 use Rattle.sds_config.specs.declared.refusal.ConfigRefusal.{ConfigRefusal}
 use Rattle.sds_config.specs.declared.refusal.ConfigRefusal.TheVariants.{BadExpression, BadSetting, NoLink, UnknownName}
 use Rattle.sds_config.specs.declared.route.RouterDef.{RouterDef}
+use Rattle.sds_config.specs.declared.route.RouterExpression.{RouterExpression}
+use Rattle.sds_config.specs.declared.route.RouterExpression.TheVariants.{Everything, Tests, Finds, Chooses}
 use Rattle.sds_config.specs.declared.route.RouterKind.{RouterKind}
 use Rattle.sds_config.specs.declared.route.RouterKind.TheVariants.{Default, Column, LookupTable, Subselect}
 use Rattle.sds_config.specs.Ends.{ends_at}
@@ -31,18 +33,23 @@ abbrev pub router_keys : List (List ℕ)
 router_keys = codes "id" ∷ codes "source_group" ∷ codes "target_group" ∷ codes "type" ∷ codes "expression" ∷ []
 
 -- an expression that is to be empty
-abbrev pub empty_expression : List ℕ → List ℕ → Result (Unit {0}) ConfigRefusal
-empty_expression at [] = Ok tt
+abbrev pub empty_expression : List ℕ → List ℕ → Result RouterExpression ConfigRefusal
+empty_expression at [] = Ok Everything
 empty_expression at (c ∷ cs) = Err (BadSetting (chars at))
 
 -- a table has a column of this name
 abbrev pub is_somewhere : List TableDef → List ℕ → Bool
 is_somewhere tables name = list_any (λ table. has_column table name) tables
 
+-- an expression whose names are known
+abbrev pub known : List ℕ → Bool → RouterExpression → Result RouterExpression ConfigRefusal
+known at true expression = Ok expression
+known at false expression = Err (UnknownName (chars at))
+
 -- each column that is tested is one that a table has
-abbrev pub tests_known : List TableDef → Result (List ColumnTest) ℕ → Result Bool ℕ
-tests_known tables (Err place) = Err place
-tests_known tables (Ok tests) = Ok (list_all (λ test. is_somewhere tables test.name) tests)
+abbrev pub judged_tests : List ℕ → List ℕ → List TableDef → Result (List ColumnTest) ℕ → Result RouterExpression ConfigRefusal
+judged_tests at id tables (Err place) = Err (BadExpression id place)
+judged_tests at id tables (Ok tests) = known at (list_all (λ test. is_somewhere tables test.name) tests) (Tests tests)
 
 -- a table of this name has both columns
 abbrev pub has_both : Option TableDef → List ℕ → List ℕ → Bool
@@ -50,9 +57,12 @@ has_both None first second = false
 has_both (Some table) first second = has_column table first && has_column table second
 
 -- the table that is looked up in has the two columns, and the column of the routed row is one that a table has
-abbrev pub lookup_known : List TableDef → Result Lookup ℕ → Result Bool ℕ
-lookup_known tables (Err place) = Err place
-lookup_known tables (Ok lookup) = Ok (has_both (table_named tables lookup.table) lookup.lookup_column lookup.external_id && is_somewhere tables lookup.column)
+abbrev pub lookup_known : List TableDef → Lookup → Bool
+lookup_known tables lookup = has_both (table_named tables lookup.table) lookup.lookup_column lookup.external_id && is_somewhere tables lookup.column
+
+abbrev pub judged_lookup : List ℕ → List ℕ → List TableDef → Result Lookup ℕ → Result RouterExpression ConfigRefusal
+judged_lookup at id tables (Err place) = Err (BadExpression id place)
+judged_lookup at id tables (Ok lookup) = known at (lookup_known tables lookup) (Finds lookup)
 
 -- a column of the routed row is one that a table has
 abbrev pub is_value_known : List TableDef → Compared → Bool
@@ -67,27 +77,22 @@ abbrev pub has_choice : List TableDef → Option TableDef → Choice → Bool
 has_choice tables None choice = false
 has_choice tables (Some table) choice = has_column table choice.column && has_conditions tables table choice.conditions
 
-abbrev pub choice_known : List TableDef → Result Choice ℕ → Result Bool ℕ
-choice_known tables (Err place) = Err place
-choice_known tables (Ok choice) = Ok (has_choice tables (table_named tables choice.table) choice)
+abbrev pub judged_choice : List ℕ → List ℕ → List TableDef → Result Choice ℕ → Result RouterExpression ConfigRefusal
+judged_choice at id tables (Err place) = Err (BadExpression id place)
+judged_choice at id tables (Ok choice) = known at (has_choice tables (table_named tables choice.table) choice) (Chooses choice)
 
--- an expression whose names are known, or the place at which it leaves its form
-abbrev pub checked : List ℕ → List ℕ → Result Bool ℕ → Result (Unit {0}) ConfigRefusal
-checked at id (Err place) = Err (BadExpression id place)
-checked at id (Ok known) = if known then Ok tt else Err (UnknownName (chars at))
-
--- the expression of a `default` router is empty, and that of another type is of the type's form
-abbrev pub judged : Config → List ℕ → RouterDef → RouterKind → Result (Unit {0}) ConfigRefusal
+-- what the expression says: that of a `default` router is empty, and that of another type is of the type's form
+abbrev pub judged : Config → List ℕ → RouterDef → RouterKind → Result RouterExpression ConfigRefusal
 judged config at router Default = empty_expression at router.expression
-judged config at router Column = checked at router.id (tests_known config.tables (tests_of router.expression))
-judged config at router LookupTable = checked at router.id (lookup_known config.tables (lookup_read router.expression))
-judged config at router Subselect = checked at router.id (choice_known config.tables (subselect_of router.expression))
+judged config at router Column = judged_tests at router.id config.tables (tests_of router.expression)
+judged config at router LookupTable = judged_lookup at router.id config.tables (lookup_read router.expression)
+judged config at router Subselect = judged_choice at router.id config.tables (subselect_of router.expression)
 
 -- the router as a whole
 abbrev pub whole_router : Config → List ℕ → RouterDef → Result RouterDef ConfigRefusal
 whole_router config at router =
     if leads config.links router.source_group router.target_group
-    then and_then (judged config at router router.kind) (λ _. Ok router)
+    then and_then (judged config at router router.kind) (λ expression. Ok (record router { parsed = expression }))
     else Err (NoLink (chars at))
 
 abbrev pub router_of : Config → List RouterDef → Members → List ℕ → Result RouterDef ConfigRefusal
@@ -97,4 +102,4 @@ router_of config earlier entry at =
     and_then (ends_at config.groups entry at) (λ ends.
     and_then (word_at router_kind_of entry at (codes "type")) (λ kind.
     and_then (text_or_empty entry at (codes "expression")) (λ expression.
-    whole_router config at (record { id = id; source_group = ends.source; target_group = ends.target; kind = kind; expression = expression }))))))
+    whole_router config at (record { id = id; source_group = ends.source; target_group = ends.target; kind = kind; expression = expression; parsed = Everything }))))))

@@ -1,6 +1,6 @@
 use crate::{
     Action, Algorithm, ChannelDef, ColumnKind, ColumnPolicy, Config, ConflictDef, DeleteAction,
-    DetectType, LinkDef, Point, ResolveType, RouterDef, RouterKind, TransformColumn, TransformDef,
+    DetectType, LinkDef, Point, ResolveType, RouterDef, RouterExpression, RouterKind, TransformColumn, TransformDef,
     TriggerDef, TriggerRouterDef,
 };
 use sds_base::{NoMemory, Same, Twin};
@@ -153,6 +153,7 @@ impl Same for RouterDef {
             && self.target_group.same(&other.target_group)
             && self.kind.same(&other.kind)
             && self.expression.same(&other.expression)
+            && self.parsed.same(&other.parsed)
     }
 }
 
@@ -164,6 +165,30 @@ impl Twin for RouterDef {
             target_group: self.target_group,
             kind: self.kind,
             expression: self.expression.twin(alloc)?,
+            parsed: self.parsed.twin(alloc)?,
+        })
+    }
+}
+
+impl Same for RouterExpression {
+    fn same(&self, other: &RouterExpression) -> bool {
+        match (self, other) {
+            (RouterExpression::Everything, RouterExpression::Everything) => true,
+            (RouterExpression::Tests(a), RouterExpression::Tests(b)) => a.same(b),
+            (RouterExpression::Finds(a), RouterExpression::Finds(b)) => a.same(b),
+            (RouterExpression::Chooses(a), RouterExpression::Chooses(b)) => a.same(b),
+            _ => false,
+        }
+    }
+}
+
+impl Twin for RouterExpression {
+    fn twin(&self, alloc: Global) -> Result<RouterExpression, NoMemory> {
+        Ok(match self {
+            RouterExpression::Everything => RouterExpression::Everything,
+            RouterExpression::Tests(tests) => RouterExpression::Tests(tests.twin(alloc)?),
+            RouterExpression::Finds(lookup) => RouterExpression::Finds(lookup.twin(alloc)?),
+            RouterExpression::Chooses(choice) => RouterExpression::Chooses(choice.twin(alloc)?),
         })
     }
 }

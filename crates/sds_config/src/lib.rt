@@ -34,5 +34,5 @@ pub use convert::{
     TransformColumn, TransformDef,
 };
 pub use refusal::ConfigRefusal;
-pub use route::{RouterDef, RouterKind, TriggerDef, TriggerRouterDef};
+pub use route::{RouterDef, RouterExpression, RouterKind, TriggerDef, TriggerRouterDef};
 pub use sds_value::{ColumnDef, TableDef};

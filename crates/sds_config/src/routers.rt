@@ -3,6 +3,7 @@ ghost use Rattle.std.specs.List.{list_all};
 ghost use Rattle.sds_config.specs.declared.refusal.ConfigRefusal.TheVariants.{BadExpression};
 ghost use Rattle.sds_config.specs.Refusals.{Answers};
 ghost use Rattle.sds_config.specs.Routers as wanted;
+ghost use Rattle.sds_config.specs.Transforms.{table_named};
 
 use crate::ends::ends_at;
 use crate::fields::{id_at, only_keys, text_or_empty, word_at};
@@ -10,7 +11,7 @@ use crate::links::leads;
 use crate::rules::has_column;
 use crate::sections::Entry;
 use crate::transforms::table_named;
-use crate::{Config, ConfigRefusal, RouterDef, RouterKind};
+use crate::{Config, ConfigRefusal, RouterDef, RouterExpression, RouterKind};
 use sds_base::{List, NoMemory, Twin, Txt};
 use sds_expressions::{
     ColumnTest, Compared, Condition, Lookup, Subselect, column_tests, lookup_text, subselect_text,
@@ -47,6 +48,7 @@ impl Entry for RouterDef {
             target_group: ends.target,
             kind,
             expression,
+            parsed: RouterExpression::Everything,
         };
         whole_router(alloc, config, at, router)
     }
@@ -64,36 +66,103 @@ fn whole_router(
     if !leads(links, router.source_group, router.target_group) {
         return Err(ConfigRefusal::NoLink(Txt::copied(alloc, at)?));
     }
-    judge(alloc, config, at, &router)?;
+    let expression = judge(alloc, config, at, &router)?;
+    let mut router = router;
+    router.parsed = expression;
     Ok(router)
 }
 
-fn judge(alloc: Global, config: &Config, at: &str, router: &RouterDef) -> Result<(), ConfigRefusal>
+fn judge(
+    alloc: Global,
+    config: &Config,
+    at: &str,
+    router: &RouterDef,
+) -> Result<RouterExpression, ConfigRefusal>
     ensures { Answers result (wanted.judged config.now at.now router.now router.now.kind) }
 {
+    let text = &router.expression;
     match router.kind {
-        RouterKind::Default => empty_expression(alloc, at, &router.expression),
+        RouterKind::Default => empty_expression(alloc, at, text),
         RouterKind::Column => {
-            let tests = column_tests(alloc, router.expression.as_str())?;
-            check(alloc, at, &router.id, tests_known(&config.tables, tests))
+            let tests = column_tests(alloc, text.as_str())?;
+            judge_tests(alloc, at, &router.id, &config.tables, tests)
         }
         RouterKind::LookupTable => {
-            let lookup = lookup_text(alloc, router.expression.as_str())?;
-            check(alloc, at, &router.id, lookup_known(&config.tables, lookup))
+            let lookup = lookup_text(alloc, text.as_str())?;
+            judge_lookup(alloc, at, &router.id, &config.tables, lookup)
         }
         RouterKind::Subselect => {
-            let choice = subselect_text(alloc, router.expression.as_str())?;
-            check(alloc, at, &router.id, choice_known(&config.tables, choice))
+            let choice = subselect_text(alloc, text.as_str())?;
+            judge_choice(alloc, at, &router.id, &config.tables, choice)
         }
     }
 }
 
-fn check(alloc: Global, at: &str, id: &Txt, known: Result<bool, usize>) -> Result<(), ConfigRefusal>
-    ensures { Answers result (wanted.checked at.now id.now known) }
+/// An expression, where its names are known.
+fn known(
+    alloc: Global,
+    at: &str,
+    known: bool,
+    expression: RouterExpression,
+) -> Result<RouterExpression, ConfigRefusal>
+    ensures { Answers result (wanted.known at.now known expression) }
 {
-    match known {
-        Ok(true) => Ok(()),
-        Ok(false) => Err(ConfigRefusal::UnknownName(Txt::copied(alloc, at)?)),
+    if !known {
+        return Err(ConfigRefusal::UnknownName(Txt::copied(alloc, at)?));
+    }
+    Ok(expression)
+}
+
+fn judge_tests(
+    alloc: Global,
+    at: &str,
+    id: &Txt,
+    tables: &List<TableDef>,
+    tests: Result<List<ColumnTest>, usize>,
+) -> Result<RouterExpression, ConfigRefusal>
+    ensures { Answers result (wanted.judged_tests at.now id.now tables.now tests) }
+{
+    match tests {
+        Ok(tests) => {
+            let stand = are_somewhere(tables, &tests);
+            known(alloc, at, stand, RouterExpression::Tests(tests))
+        }
+        Err(place) => Err(bad_expression(alloc, id, place)?),
+    }
+}
+
+fn judge_lookup(
+    alloc: Global,
+    at: &str,
+    id: &Txt,
+    tables: &List<TableDef>,
+    lookup: Result<Lookup, usize>,
+) -> Result<RouterExpression, ConfigRefusal>
+    ensures { Answers result (wanted.judged_lookup at.now id.now tables.now lookup) }
+{
+    match lookup {
+        Ok(lookup) => {
+            let stand = lookup_known(tables, &lookup);
+            known(alloc, at, stand, RouterExpression::Finds(lookup))
+        }
+        Err(place) => Err(bad_expression(alloc, id, place)?),
+    }
+}
+
+fn judge_choice(
+    alloc: Global,
+    at: &str,
+    id: &Txt,
+    tables: &List<TableDef>,
+    choice: Result<Subselect, usize>,
+) -> Result<RouterExpression, ConfigRefusal>
+    ensures { Answers result (wanted.judged_choice at.now id.now tables.now choice) }
+{
+    match choice {
+        Ok(choice) => {
+            let stand = choice_known(tables, &choice);
+            known(alloc, at, stand, RouterExpression::Chooses(choice))
+        }
         Err(place) => Err(bad_expression(alloc, id, place)?),
     }
 }
@@ -111,18 +180,6 @@ fn bad_expression(alloc: Global, id: &Txt, place: usize) -> Result<ConfigRefusal
     })
 }
 
-fn tests_known(
-    tables: &List<TableDef>,
-    tests: Result<List<ColumnTest>, usize>,
-) -> Result<bool, usize>
-    ensures { result ≡ wanted.tests_known tables.now tests }
-{
-    match tests {
-        Ok(tests) => Ok(are_somewhere(tables, &tests)),
-        Err(place) => Err(place),
-    }
-}
-
 fn are_somewhere(tables: &List<TableDef>, tests: &List<ColumnTest>) -> bool
     ensures { result ≡ list_all (λ test. wanted.is_somewhere tables.now test.name) tests.now }
 {
@@ -132,18 +189,12 @@ fn are_somewhere(tables: &List<TableDef>, tests: &List<ColumnTest>) -> bool
         .all(|test| is_somewhere(tables, &test.name))
 }
 
-fn lookup_known(tables: &List<TableDef>, lookup: Result<Lookup, usize>) -> Result<bool, usize>
-    ensures { result ≡ wanted.lookup_known tables.now lookup }
+fn lookup_known(tables: &List<TableDef>, lookup: &Lookup) -> bool
+    ensures { result ≡ wanted.lookup_known tables.now lookup.now }
 {
-    let lookup = match lookup {
-        Ok(lookup) => lookup,
-        Err(place) => return Err(place),
-    };
     let table = table_named(tables.inner().as_slice(), &lookup.table);
-    Ok(
-        has_both(table, &lookup.lookup_column, &lookup.external_id)
-            && is_somewhere(tables, &lookup.column),
-    )
+    has_both(table, &lookup.lookup_column, &lookup.external_id)
+        && is_somewhere(tables, &lookup.column)
 }
 
 fn has_both(table: Option<&TableDef>, first: &Txt, second: &Txt) -> bool
@@ -155,15 +206,11 @@ fn has_both(table: Option<&TableDef>, first: &Txt, second: &Txt) -> bool
     }
 }
 
-fn choice_known(tables: &List<TableDef>, choice: Result<Subselect, usize>) -> Result<bool, usize>
-    ensures { result ≡ wanted.choice_known tables.now choice }
+fn choice_known(tables: &List<TableDef>, choice: &Subselect) -> bool
+    ensures { result ≡ wanted.has_choice tables.now (table_named tables.now choice.now.table) choice.now }
 {
-    let choice = match choice {
-        Ok(choice) => choice,
-        Err(place) => return Err(place),
-    };
     let table = table_named(tables.inner().as_slice(), &choice.table);
-    Ok(has_choice(tables, table, &choice))
+    has_choice(tables, table, choice)
 }
 
 fn has_choice(tables: &List<TableDef>, table: Option<&TableDef>, choice: &Subselect) -> bool
@@ -200,11 +247,15 @@ fn is_somewhere(tables: &List<TableDef>, name: &Txt) -> bool
     tables.inner().iter().any(|table| has_column(table, name))
 }
 
-fn empty_expression(alloc: Global, at: &str, expression: &Txt) -> Result<(), ConfigRefusal>
+fn empty_expression(
+    alloc: Global,
+    at: &str,
+    expression: &Txt,
+) -> Result<RouterExpression, ConfigRefusal>
     ensures { Answers result (wanted.empty_expression at.now expression.now) }
 {
     if !expression.is_empty() {
         return Err(ConfigRefusal::BadSetting(Txt::copied(alloc, at)?));
     }
-    Ok(())
+    Ok(RouterExpression::Everything)
 }
