@@ -1,6 +1,10 @@
-use crate::{ConflictDef, RouterDef, TransformDef, TriggerDef, TriggerRouterDef};
-use sds_base::{List, Txt};
+ghost use Rattle.std.specs.Prelude.{◌≡◌, ◌≢◌, IfOk, IfErr};
+
+use crate::reading::read_file;
+use crate::{ConfigRefusal, ConflictDef, RouterDef, TransformDef, TriggerDef, TriggerRouterDef};
+use sds_base::{List, NoMemory, Twin, Txt};
 use sds_value::TableDef;
+use std::alloc::Global;
 
 /// The whole configuration. All nodes of a chain have the same one.
 #[derive(Debug, Drop)]
@@ -58,4 +62,33 @@ pub struct ChannelDef {
     /// How many batches a message takes at most.
     pub max_batch_to_send: u32,
     pub batch_algorithm: Algorithm,
+}
+
+impl Config {
+    ghost use Rattle.sds_config.specs.declared.refusal.ConfigRefusal.TheVariants as refusal;
+    ghost use Rattle.sds_config.specs.Configuration.{IsConfiguration, IsFirstRefusal};
+
+    /// Reads a configuration file. The answer is Ok exactly where the file writes a configuration, with exactly that value,
+    /// and else exactly the first refusal in the order of the file's rules, which are symds' own: the file's length, its
+    /// TOML, its version, unlisted keys, and then section after section and entry after entry.
+    pub fn read(alloc: Global, bytes: &[u8]) -> Result<Config, ConfigRefusal>
+        ensures ok { IfOk result (λ config. IsConfiguration bytes.now config) }
+        ensures refused { IfErr result (λ why. why ≢ refusal.NoMemory → IsFirstRefusal bytes.now why) }
+    {
+        if bytes.len() > 1_048_576 {
+            return Err(ConfigRefusal::TooMany(Txt::copied(alloc, "file")?));
+        }
+        match toml::table_from_slice(alloc, bytes) {
+            Ok(table) => read_file(alloc, &table),
+            Err(error) if error.is_memory() => Err(ConfigRefusal::NoMemory),
+            Err(_) => Err(ConfigRefusal::NotToml),
+        }
+    }
+
+    /// An equal configuration.
+    pub fn copy(&self, alloc: Global) -> Result<Config, NoMemory>
+        ensures { IfOk result (λ copy. copy ≡ self.now) }
+    {
+        self.twin(alloc)
+    }
 }

@@ -2,14 +2,37 @@
 //! transforms and conflict settings. A number that stands for one of these is its place in its list, from 0.
 #![tactic(auto)]
 
+mod channels;
+mod columns;
 mod config;
+mod conflicts;
 mod convert;
+mod copies;
+mod ends;
+mod fields;
+mod formulas;
+mod groups;
+mod links;
+mod named;
+mod pairs;
+mod reading;
+mod refusal;
 mod route;
+mod routers;
+mod rules;
+mod sections;
+mod tables;
+#[cfg(test)]
+mod tests;
+mod transforms;
+mod triggers;
+mod words;
 
 pub use config::{Action, Algorithm, ChannelDef, Config, LinkDef};
 pub use convert::{
     ColumnKind, ColumnPolicy, ConflictDef, DeleteAction, DetectType, Point, ResolveType,
     TransformColumn, TransformDef,
 };
-pub use route::{RouterDef, RouterKind, TriggerDef, TriggerRouterDef};
+pub use refusal::ConfigRefusal;
+pub use route::{RouterDef, RouterExpression, RouterKind, TriggerDef, TriggerRouterDef};
 pub use sds_value::{ColumnDef, TableDef};

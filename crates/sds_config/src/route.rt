@@ -1,4 +1,5 @@
-use sds_base::Txt;
+use sds_base::{List, Txt};
+use sds_expressions::{ColumnTest, Lookup, Subselect};
 
 /// Which changes of a table are captured, and in which channel they go.
 #[derive(Debug, Drop)]
@@ -38,6 +39,21 @@ pub struct RouterDef {
     pub target_group: u32,
     pub kind: RouterKind,
     pub expression: Txt,
+    /// What the expression says.
+    pub parsed: RouterExpression,
+}
+
+/// What a router's expression says.
+#[derive(Debug, Drop)]
+pub enum RouterExpression {
+    /// Of a `default` router: every node.
+    Everything,
+    /// Of a `column` router: one of these tests holds.
+    Tests(List<ColumnTest>),
+    /// Of a `lookuptable` router.
+    Finds(Lookup),
+    /// Of a `subselect` router.
+    Chooses(Subselect),
 }
 
 /// Joins a trigger to a router.

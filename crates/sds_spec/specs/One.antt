@@ -12,6 +12,7 @@ use Rattle.sds_config.specs.declared.config.ChannelDef.{ChannelDef}
 use Rattle.sds_config.specs.declared.config.Config.{Config}
 use Rattle.sds_config.specs.declared.config.LinkDef.{LinkDef}
 use Rattle.sds_config.specs.declared.route.RouterDef.{RouterDef}
+use Rattle.sds_config.specs.declared.route.RouterExpression.TheVariants.{Everything}
 use Rattle.sds_config.specs.declared.route.RouterKind.TheVariants as router
 use Rattle.sds_config.specs.declared.route.TriggerDef.{TriggerDef}
 use Rattle.sds_config.specs.declared.route.TriggerRouterDef.{TriggerRouterDef}
@@ -42,7 +43,7 @@ pair_trigger = record {
 }
 
 abbrev pub down_router : RouterDef
-down_router = record { id = codes "down"; source_group = 0; target_group = 1; kind = router.Default; expression = [] }
+down_router = record { id = codes "down"; source_group = 0; target_group = 1; kind = router.Default; expression = []; parsed = Everything }
 
 abbrev pub one : Config
 one = record {

@@ -4,8 +4,8 @@ ghost use Rattle.sds_spec.specs.One.{one, pair_table, data_channel, pair_trigger
 use crate::words::word;
 use sds_base::{List, NoMemory};
 use sds_config::{
-    Action, Algorithm, ChannelDef, ColumnDef, Config, LinkDef, RouterDef, RouterKind, TableDef,
-    TriggerDef, TriggerRouterDef,
+    Action, Algorithm, ChannelDef, ColumnDef, Config, LinkDef, RouterDef, RouterExpression,
+    RouterKind, TableDef, TriggerDef, TriggerRouterDef,
 };
 use sds_value::Kind;
 use std::alloc::Global;
@@ -122,5 +122,6 @@ fn down_router(alloc: Global) -> Result<RouterDef, NoMemory>
         target_group: 1,
         kind: RouterKind::Default,
         expression: word(alloc, "")?,
+        parsed: RouterExpression::Everything,
     })
 }

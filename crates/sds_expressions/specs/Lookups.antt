@@ -1,0 +1,117 @@
+-- The expression of a `lookuptable` router: four lines, each a key with its name, in any order. It is read character by character.
+use Rattle.std.specs.Prelude.{ℕ, ◌+◌, Bool, true, false, not, ◌&&◌, ◌||◌, ◌==◌, nat_lt, if◌then◌else◌, List, [], ◌∷◌, ◌++◌, length, codes, Option, Some, None, is_some, Result, Ok, Err}
+use Rattle.std.specs.List.{starts_with}
+use Rattle.std.specs.Str.{bytes_eq}
+use Rattle.sds_expressions.specs.declared.lookup.Lookup.{Lookup}
+use Rattle.sds_expressions.specs.declared.lookup_read.Key.{Key}
+use Rattle.sds_expressions.specs.declared.lookup_read.Key.TheVariants.{Table, Column, LookupColumn, ExternalId}
+use Rattle.sds_expressions.specs.declared.lookup_read.Part.{Part}
+use Rattle.sds_expressions.specs.declared.lookup_read.Part.TheVariants as part
+use Rattle.sds_expressions.specs.declared.lookup_read.Reading.{Reading}
+use Rattle.sds_expressions.specs.ColumnTests.{is_name_character}
+
+-- the keys, each with its `=`
+abbrev pub key_text : Key → List ℕ
+key_text Table = codes "LOOKUP_TABLE="
+key_text Column = codes "KEY_COLUMN="
+key_text LookupColumn = codes "LOOKUP_KEY_COLUMN="
+key_text ExternalId = codes "EXTERNAL_ID_COLUMN="
+
+-- the name that is read for a key
+abbrev pub found : Key → Reading → Option (List ℕ)
+found Table reading = reading.table
+found Column reading = reading.column
+found LookupColumn reading = reading.lookup_column
+found ExternalId reading = reading.external_id
+
+-- a line of the key may still come
+abbrev pub is_open : Reading → Key → Bool
+is_open reading key = not (is_some (found key reading))
+
+-- the word is such a key, and the word is the front of such a key
+abbrev pub is_key : Reading → List ℕ → Key → Bool
+is_key reading word key = is_open reading key && bytes_eq word (key_text key)
+
+abbrev pub begins_key : Reading → List ℕ → Key → Bool
+begins_key reading word key = is_open reading key && starts_with (λ a b. a == b) (key_text key) word
+
+abbrev pub key_of : Reading → List ℕ → Option Key
+key_of reading word = if is_key reading word Table then Some Table
+    else (if is_key reading word Column then Some Column
+    else (if is_key reading word LookupColumn then Some LookupColumn
+    else (if is_key reading word ExternalId then Some ExternalId else None)))
+
+abbrev pub begins : Reading → List ℕ → Bool
+begins reading word = begins_key reading word Table
+    || (begins_key reading word Column || (begins_key reading word LookupColumn || begins_key reading word ExternalId))
+
+-- a line is read
+abbrev pub with_line : Key → Reading → List ℕ → Reading
+with_line Table reading name = record reading { table = Some name }
+with_line Column reading name = record reading { column = Some name }
+with_line LookupColumn reading name = record reading { lookup_column = Some name }
+with_line ExternalId reading name = record reading { external_id = Some name }
+
+-- the four names, where they are all there
+abbrev pub four : Option (List ℕ) → Option (List ℕ) → Option (List ℕ) → Option (List ℕ) → Option Lookup
+four (Some table) (Some column) (Some lookup_column) (Some external_id) =
+    Some (record { table = table; column = column; lookup_column = lookup_column; external_id = external_id })
+four table column lookup_column external_id = None
+
+abbrev pub lookup_of : Reading → Option Lookup
+lookup_of reading = four reading.table reading.column reading.lookup_column reading.external_id
+
+-- in a key
+abbrev pub key_read : Reading → List ℕ → Option Key → Option Reading
+key_read reading word (Some key) = Some (record reading { word = []; key = key; part = part.Name })
+key_read reading word None = if begins reading word then Some (record reading { word = word }) else None
+
+abbrev pub step_key : Reading → ℕ → Option Reading
+step_key reading c = key_read reading (reading.word ++ c ∷ []) (key_of reading (reading.word ++ c ∷ []))
+
+-- behind a line: another key, or the end
+abbrev pub part_behind : Option Lookup → Part
+part_behind (Some lookup) = part.Ended
+part_behind None = part.Key
+
+abbrev pub next_line : Reading → Reading
+next_line reading = record reading { word = []; part = part_behind (lookup_of reading) }
+
+-- in a name
+abbrev pub step_name : Reading → ℕ → Option Reading
+step_name reading c = if is_name_character c
+    then (if nat_lt (length reading.word) 50 then Some (record reading { word = reading.word ++ c ∷ [] }) else None)
+    else (if c == 10 && nat_lt 0 (length reading.word) then Some (next_line (with_line reading.key reading reading.word)) else None)
+
+abbrev pub step_at : Part → Reading → ℕ → Option Reading
+step_at part.Key reading c = step_key reading c
+step_at part.Name reading c = step_name reading c
+step_at part.Ended reading c = None
+
+abbrev pub step : Reading → ℕ → Option Reading
+step reading c = step_at reading.part reading c
+
+-- the lookup of a text that ends here, where it may
+abbrev pub last_line : Reading → List ℕ → Option Lookup
+last_line reading [] = None
+last_line reading (c ∷ cs) = lookup_of (with_line reading.key reading (c ∷ cs))
+
+abbrev pub lookup_at : Part → Reading → Option Lookup
+lookup_at part.Key reading = None
+lookup_at part.Name reading = last_line reading reading.word
+lookup_at part.Ended reading = lookup_of reading
+
+abbrev pub end_of : ℕ → Option Lookup → Result Lookup ℕ
+end_of place (Some lookup) = Ok lookup
+end_of place None = Err place
+
+-- the lookup, or the place of the first character from which no continuation is of the form
+abbrev pub lookup_from : ℕ → Reading → List ℕ → Result Lookup ℕ
+lookup_from place reading [] = end_of place (lookup_at reading.part reading)
+lookup_from place reading (c ∷ cs) = elim (step reading c) [ None ↦ Err place | Some next ↦ lookup_from (place + 1) next cs ]
+
+abbrev pub beginning : Reading
+beginning = record { table = None; column = None; lookup_column = None; external_id = None; key = Table; word = []; part = part.Key }
+
+abbrev pub lookup_read : List ℕ → Result Lookup ℕ
+lookup_read text = lookup_from 0 beginning text

@@ -1,0 +1,283 @@
+ghost use Rattle.std.specs.Prelude.{◌≡◌, ◌==◌, IfOk, if◌then◌else◌};
+ghost use Rattle.std.specs.Str.{bytes_eq, chars};
+ghost use Rattle.std.specs.List.{starts_with};
+ghost use Rattle.sds_expressions.specs.Lookups as wanted;
+
+use crate::letters::{begins, characters_of, is_name_character, text_of};
+use crate::lookup::Lookup;
+use sds_base::{List, NoMemory, Txt};
+use std::alloc::Global;
+
+const TABLE: [char; 13] = [
+    'L', 'O', 'O', 'K', 'U', 'P', '_', 'T', 'A', 'B', 'L', 'E', '=',
+];
+
+const COLUMN: [char; 11] = ['K', 'E', 'Y', '_', 'C', 'O', 'L', 'U', 'M', 'N', '='];
+
+const LOOKUP_COLUMN: [char; 18] = [
+    'L', 'O', 'O', 'K', 'U', 'P', '_', 'K', 'E', 'Y', '_', 'C', 'O', 'L', 'U', 'M', 'N', '=',
+];
+
+const EXTERNAL_ID: [char; 19] = [
+    'E', 'X', 'T', 'E', 'R', 'N', 'A', 'L', '_', 'I', 'D', '_', 'C', 'O', 'L', 'U', 'M', 'N', '=',
+];
+
+/// The keys of a `lookuptable` router's expression.
+#[derive(Clone, Copy, Debug)]
+pub enum Key {
+    Table,
+    Column,
+    LookupColumn,
+    ExternalId,
+}
+
+/// Where the reading of a `lookuptable` router's expression stands: in a key, in a name, or behind the last line.
+#[derive(Clone, Copy, Debug)]
+pub enum Part {
+    Key,
+    Name,
+    Ended,
+}
+
+/// What is read of a `lookuptable` router's expression so far.
+#[derive(Debug, Drop)]
+pub struct Reading {
+    pub table: Option<Txt>,
+    pub column: Option<Txt>,
+    pub lookup_column: Option<Txt>,
+    pub external_id: Option<Txt>,
+    pub key: Key,
+    pub word: List<char>,
+    pub part: Part,
+}
+
+/// The lookup of a `lookuptable` router's expression, or the place of the first character, from 0, from which no
+/// continuation is of the form; where the text ends too early that is its length.
+pub fn lookup_text(alloc: Global, text: &str) -> Result<Result<Lookup, usize>, NoMemory>
+    ensures { IfOk result (λ read. read ≡ wanted.lookup_read (chars text.now)) }
+{
+    let characters = characters_of(alloc, text)?;
+    lookup_of_characters(alloc, characters.as_slice())
+}
+
+fn lookup_of_characters(alloc: Global, text: &[char]) -> Result<Result<Lookup, usize>, NoMemory>
+    ensures { IfOk result (λ read. read ≡ wanted.lookup_read text.now) }
+{
+    let mut reading = beginning(alloc);
+    for (place, c) in text.iter().enumerate() {
+        if !step(alloc, &mut reading, *c)? {
+            return Ok(Err(place));
+        }
+    }
+    match lookup_ended(alloc, reading)? {
+        Some(lookup) => Ok(Ok(lookup)),
+        None => Ok(Err(text.len())),
+    }
+}
+
+fn beginning(alloc: Global) -> Reading
+    ensures { result ≡ wanted.beginning }
+{
+    Reading {
+        table: None,
+        column: None,
+        lookup_column: None,
+        external_id: None,
+        key: Key::Table,
+        word: List::new(alloc),
+        part: Part::Key,
+    }
+}
+
+/// The lookup of a text that ends here, where it may.
+fn lookup_ended(alloc: Global, reading: Reading) -> Result<Option<Lookup>, NoMemory>
+    ensures { IfOk result (λ lookup. lookup ≡ wanted.lookup_at reading.part reading) }
+{
+    match reading.part {
+        Part::Key => Ok(None),
+        Part::Name => last_line(alloc, reading),
+        Part::Ended => Ok(lookup_of(reading)),
+    }
+}
+
+fn last_line(alloc: Global, mut reading: Reading) -> Result<Option<Lookup>, NoMemory>
+    ensures { IfOk result (λ lookup. lookup ≡ wanted.last_line reading reading.word) }
+{
+    if reading.word.inner().is_empty() {
+        return Ok(None);
+    }
+    let name = text_of(alloc, reading.word.inner().as_slice())?;
+    let key = reading.key;
+    put_line(&mut reading, key, name);
+    Ok(lookup_of(reading))
+}
+
+fn lookup_of(reading: Reading) -> Option<Lookup>
+    ensures { result ≡ wanted.lookup_of reading }
+{
+    match (
+        reading.table,
+        reading.column,
+        reading.lookup_column,
+        reading.external_id,
+    ) {
+        (Some(table), Some(column), Some(lookup_column), Some(external_id)) => Some(Lookup {
+            table,
+            column,
+            lookup_column,
+            external_id,
+        }),
+        _ => None,
+    }
+}
+
+/// Reads a character, and says whether a continuation is of the form.
+fn step(alloc: Global, reading: &mut Reading, c: char) -> Result<bool, NoMemory>
+    ensures { IfOk result (λ goes. (if goes then Some reading.new else None) ≡ wanted.step reading.old c) }
+{
+    match reading.part {
+        Part::Key => step_key(alloc, reading, c),
+        Part::Name => step_name(alloc, reading, c),
+        Part::Ended => Ok(false),
+    }
+}
+
+fn step_key(alloc: Global, reading: &mut Reading, c: char) -> Result<bool, NoMemory>
+    ensures { IfOk result (λ goes. (if goes then Some reading.new else None) ≡ wanted.step_key reading.old c) }
+{
+    let mut word = List::of(reading.word.inner().as_slice().to_vec(alloc)?);
+    word.push(c)?;
+    match key_of(reading, word.inner().as_slice()) {
+        Some(key) => {
+            reading.word = List::new(alloc);
+            reading.key = key;
+            reading.part = Part::Name;
+            Ok(true)
+        }
+        None => Ok(longer(reading, word)),
+    }
+}
+
+fn longer(reading: &mut Reading, word: List<char>) -> bool
+    ensures { (if result then Some reading.new else None) ≡ wanted.key_read reading.old word None }
+{
+    let goes = begins_any(reading, word.inner().as_slice());
+    reading.word = word;
+    goes
+}
+
+fn step_name(alloc: Global, reading: &mut Reading, c: char) -> Result<bool, NoMemory>
+    ensures { IfOk result (λ goes. (if goes then Some reading.new else None) ≡ wanted.step_name reading.old c) }
+{
+    if is_name_character(c) {
+        let goes = reading.word.inner().len() < 50;
+        reading.word.push(c)?;
+        return Ok(goes);
+    }
+    if c != '\n' || reading.word.inner().is_empty() {
+        return Ok(false);
+    }
+    let name = text_of(alloc, reading.word.inner().as_slice())?;
+    let key = reading.key;
+    put_line(reading, key, name);
+    reading.part = part_behind(reading);
+    reading.word = List::new(alloc);
+    Ok(true)
+}
+
+fn part_behind(reading: &Reading) -> Part
+    ensures { result ≡ wanted.part_behind (wanted.lookup_of reading.now) }
+{
+    match (
+        &reading.table,
+        &reading.column,
+        &reading.lookup_column,
+        &reading.external_id,
+    ) {
+        (Some(_), Some(_), Some(_), Some(_)) => Part::Ended,
+        _ => Part::Key,
+    }
+}
+
+fn put_line(reading: &mut Reading, key: Key, name: Txt)
+    ensures { reading.new ≡ wanted.with_line key reading.old name }
+{
+    match key {
+        Key::Table => reading.table = Some(name),
+        Key::Column => reading.column = Some(name),
+        Key::LookupColumn => reading.lookup_column = Some(name),
+        Key::ExternalId => reading.external_id = Some(name),
+    }
+}
+
+fn key_of(reading: &Reading, word: &[char]) -> Option<Key>
+    ensures { result ≡ wanted.key_of reading.now word.now }
+{
+    if is_key(reading, word, Key::Table) {
+        return Some(Key::Table);
+    }
+    if is_key(reading, word, Key::Column) {
+        return Some(Key::Column);
+    }
+    if is_key(reading, word, Key::LookupColumn) {
+        return Some(Key::LookupColumn);
+    }
+    if is_key(reading, word, Key::ExternalId) {
+        return Some(Key::ExternalId);
+    }
+    None
+}
+
+fn begins_any(reading: &Reading, word: &[char]) -> bool
+    ensures { result ≡ wanted.begins reading.now word.now }
+{
+    begins_key(reading, word, Key::Table)
+        || begins_key(reading, word, Key::Column)
+        || begins_key(reading, word, Key::LookupColumn)
+        || begins_key(reading, word, Key::ExternalId)
+}
+
+fn is_key(reading: &Reading, word: &[char], key: Key) -> bool
+    ensures { result ≡ wanted.is_key reading.now word.now key }
+{
+    is_open(reading, key) && is_text(word, key)
+}
+
+fn begins_key(reading: &Reading, word: &[char], key: Key) -> bool
+    ensures { result ≡ wanted.begins_key reading.now word.now key }
+{
+    is_open(reading, key) && begins_text(word, key)
+}
+
+fn is_open(reading: &Reading, key: Key) -> bool
+    ensures { result ≡ wanted.is_open reading.now key }
+{
+    match key {
+        Key::Table => reading.table.is_none(),
+        Key::Column => reading.column.is_none(),
+        Key::LookupColumn => reading.lookup_column.is_none(),
+        Key::ExternalId => reading.external_id.is_none(),
+    }
+}
+
+fn is_text(word: &[char], key: Key) -> bool
+    ensures { result ≡ bytes_eq word.now (wanted.key_text key) }
+{
+    match key {
+        Key::Table => word == TABLE.as_slice(),
+        Key::Column => word == COLUMN.as_slice(),
+        Key::LookupColumn => word == LOOKUP_COLUMN.as_slice(),
+        Key::ExternalId => word == EXTERNAL_ID.as_slice(),
+    }
+}
+
+fn begins_text(word: &[char], key: Key) -> bool
+    ensures { result ≡ starts_with (λ a b. a == b) (wanted.key_text key) word.now }
+{
+    match key {
+        Key::Table => begins(&TABLE, word),
+        Key::Column => begins(&COLUMN, word),
+        Key::LookupColumn => begins(&LOOKUP_COLUMN, word),
+        Key::ExternalId => begins(&EXTERNAL_ID, word),
+    }
+}

@@ -1,0 +1,430 @@
+ghost use Rattle.std.specs.Prelude.{◌≡◌, true, false, IfOk, OnOk, if◌then◌else◌};
+ghost use Rattle.std.specs.Str.{chars};
+ghost use Rattle.sds_expressions.specs.Subselects as wanted;
+
+use crate::letters::{begins, characters_of, is_name_character, one, text_of};
+use crate::subselect::{Compared, Condition, NodeColumn, Subselect};
+use sds_base::{List, NoMemory};
+use std::alloc::Global;
+
+const NODE: [char; 1] = ['c'];
+
+const EXTERNAL_ID: [char; 11] = ['e', 'x', 't', 'e', 'r', 'n', 'a', 'l', '_', 'i', 'd'];
+
+const NODE_ID: [char; 7] = ['n', 'o', 'd', 'e', '_', 'i', 'd'];
+
+const IN: [char; 2] = ['i', 'n'];
+
+const SELECT: [char; 6] = ['s', 'e', 'l', 'e', 'c', 't'];
+
+const FROM: [char; 4] = ['f', 'r', 'o', 'm'];
+
+const WHERE: [char; 5] = ['w', 'h', 'e', 'r', 'e'];
+
+const AND: [char; 3] = ['a', 'n', 'd'];
+
+/// Where the reading of a `subselect` router's expression stands: at a keyword, a sign, a name or a value.
+#[derive(Clone, Copy, Debug)]
+pub enum Slot {
+    /// `c`
+    Prefix,
+    /// `.`
+    Dot,
+    /// `external_id` or `node_id`
+    Which,
+    /// `in`
+    In,
+    /// `(`
+    Open,
+    /// `select`
+    Select,
+    /// The column that is chosen.
+    Column,
+    /// `from`
+    From,
+    /// The table.
+    Table,
+    /// `where`
+    Where,
+    /// The column of a condition.
+    Tested,
+    /// `=`
+    Equals,
+    /// A colon, or a quote.
+    Value,
+    /// The column of the routed row.
+    Routed,
+    /// Between quotes.
+    Quoted,
+    /// Behind a quote that ends the text or is the first of two.
+    Quote,
+    /// `and`, or `)`.
+    Next,
+    /// Behind the closing parenthesis.
+    Close,
+}
+
+/// What is read of a `subselect` router's expression so far.
+#[derive(Debug, Drop)]
+pub struct Reading {
+    pub by: NodeColumn,
+    pub column: List<char>,
+    pub table: List<char>,
+    pub tested: List<char>,
+    pub conditions: List<Condition>,
+    /// The word or text so far.
+    pub word: List<char>,
+    /// Whether a word may begin here.
+    pub spaced: bool,
+    pub slot: Slot,
+}
+
+/// The choice of a `subselect` router's expression, or the place of the first character, from 0, from which no continuation
+/// is of the form; where the text ends too early that is its length.
+pub fn subselect_text(alloc: Global, text: &str) -> Result<Result<Subselect, usize>, NoMemory>
+    ensures { IfOk result (λ read. read ≡ wanted.subselect_of (chars text.now)) }
+{
+    let characters = characters_of(alloc, text)?;
+    subselect_of_characters(alloc, characters.as_slice())
+}
+
+fn subselect_of_characters(
+    alloc: Global,
+    text: &[char],
+) -> Result<Result<Subselect, usize>, NoMemory>
+    ensures { IfOk result (λ read. read ≡ wanted.subselect_of text.now) }
+{
+    let mut reading = beginning(alloc);
+    for (place, c) in text.iter().enumerate() {
+        if !step(alloc, &mut reading, *c)? {
+            return Ok(Err(place));
+        }
+    }
+    match choice_ended(alloc, reading)? {
+        Some(choice) => Ok(Ok(choice)),
+        None => Ok(Err(text.len())),
+    }
+}
+
+fn beginning(alloc: Global) -> Reading
+    ensures { result ≡ wanted.beginning }
+{
+    Reading {
+        by: NodeColumn::ExternalId,
+        column: List::new(alloc),
+        table: List::new(alloc),
+        tested: List::new(alloc),
+        conditions: List::new(alloc),
+        word: List::new(alloc),
+        spaced: true,
+        slot: Slot::Prefix,
+    }
+}
+
+/// The choice of a text that ends here, where it may.
+fn choice_ended(alloc: Global, reading: Reading) -> Result<Option<Subselect>, NoMemory>
+    ensures { IfOk result (λ choice. choice ≡ wanted.choice_at reading.slot reading) }
+{
+    match reading.slot {
+        Slot::Close => Ok(Some(Subselect {
+            by: reading.by,
+            column: text_of(alloc, reading.column.inner().as_slice())?,
+            table: text_of(alloc, reading.table.inner().as_slice())?,
+            conditions: reading.conditions,
+        })),
+        _ => Ok(None),
+    }
+}
+
+/// Reads a character, and says whether a continuation is of the form.
+fn step(alloc: Global, reading: &mut Reading, c: char) -> Result<bool, NoMemory>
+    ensures { IfOk result (λ goes. (if goes then Some reading.new else None) ≡ wanted.step reading.old c) }
+{
+    match reading.slot {
+        Slot::Quoted => in_quotes(alloc, reading, c),
+        Slot::Quote => behind_quote(alloc, reading, c),
+        _ => outside(alloc, reading, c),
+    }
+}
+
+fn outside(alloc: Global, reading: &mut Reading, c: char) -> Result<bool, NoMemory>
+    ensures { IfOk result (λ goes. (if goes then Some reading.new else None) ≡ wanted.outside reading.old.word reading.old c) }
+{
+    if reading.word.inner().is_empty() {
+        return fresh(alloc, reading, c);
+    }
+    if takes_name(reading.slot) {
+        return in_name(alloc, reading, c);
+    }
+    in_keyword(alloc, reading, c)
+}
+
+fn in_quotes(_alloc: Global, reading: &mut Reading, c: char) -> Result<bool, NoMemory>
+    ensures { IfOk result (λ goes. (if goes then Some reading.new else None) ≡ wanted.in_quotes reading.old c) }
+{
+    if c == '\'' {
+        reading.slot = Slot::Quote;
+        return Ok(true);
+    }
+    reading.word.push(c)?;
+    Ok(true)
+}
+
+fn behind_quote(alloc: Global, reading: &mut Reading, c: char) -> Result<bool, NoMemory>
+    ensures { IfOk result (λ goes. (if goes then Some reading.new else None) ≡ wanted.behind_quote reading.old c) }
+{
+    if c == '\'' {
+        reading.word.push(c)?;
+        reading.slot = Slot::Quoted;
+        return Ok(true);
+    }
+    let text = text_of(alloc, reading.word.inner().as_slice())?;
+    put_condition(alloc, reading, Compared::Text(text), true)?;
+    fresh(alloc, reading, c)
+}
+
+fn in_name(alloc: Global, reading: &mut Reading, c: char) -> Result<bool, NoMemory>
+    ensures { IfOk result (λ goes. (if goes then Some reading.new else None) ≡ wanted.in_name reading.old c) }
+{
+    if is_name_character(c) {
+        let goes = reading.word.inner().len() < 50;
+        reading.word.push(c)?;
+        return Ok(goes);
+    }
+    finish(alloc, reading)?;
+    fresh(alloc, reading, c)
+}
+
+fn in_keyword(alloc: Global, reading: &mut Reading, c: char) -> Result<bool, NoMemory>
+    ensures { IfOk result (λ goes. (if goes then Some reading.new else None) ≡ wanted.in_keyword reading.old c) }
+{
+    let mut word = List::of(reading.word.inner().as_slice().to_vec(alloc)?);
+    word.push(c.to_ascii_lowercase())?;
+    if begins_keyword(reading.slot, word.inner().as_slice()) {
+        reading.word = word;
+        return Ok(true);
+    }
+    if !is_keyword(reading.slot, reading.word.inner().as_slice()) {
+        return Ok(false);
+    }
+    finish(alloc, reading)?;
+    fresh(alloc, reading, c)
+}
+
+fn fresh(alloc: Global, reading: &mut Reading, c: char) -> Result<bool, NoMemory>
+    ensures { IfOk result (λ goes. (if goes then Some reading.new else None) ≡ wanted.fresh reading.old c) }
+{
+    match reading.slot {
+        Slot::Dot => Ok(sign(alloc, reading, c, '.', Slot::Which)),
+        Slot::Open => Ok(sign(alloc, reading, c, '(', Slot::Select)),
+        Slot::Equals => Ok(sign(alloc, reading, c, '=', Slot::Value)),
+        Slot::Value => before_value(alloc, reading, c),
+        Slot::Column | Slot::Table | Slot::Tested | Slot::Routed => before_name(alloc, reading, c),
+        Slot::Next => before_next(alloc, reading, c),
+        Slot::Close => Ok(is_spacing(c)),
+        _ => before_keyword(alloc, reading, c),
+    }
+}
+
+/// A sign, round which spacing may stand.
+fn sign(alloc: Global, reading: &mut Reading, c: char, mark: char, next: Slot) -> bool
+    ensures { (if result then Some reading.new else None) ≡ wanted.sign mark next reading.old c }
+{
+    if is_spacing(c) {
+        return true;
+    }
+    if c != mark {
+        return false;
+    }
+    put_slot(alloc, reading, next, true);
+    true
+}
+
+fn before_keyword(alloc: Global, reading: &mut Reading, c: char) -> Result<bool, NoMemory>
+    ensures { IfOk result (λ goes. (if goes then Some reading.new else None) ≡ wanted.before_keyword reading.old c) }
+{
+    if is_spacing(c) {
+        reading.spaced = true;
+        return Ok(true);
+    }
+    let word = one(alloc, c.to_ascii_lowercase())?;
+    if !reading.spaced || !begins_keyword(reading.slot, word.inner().as_slice()) {
+        return Ok(false);
+    }
+    reading.word = word;
+    Ok(true)
+}
+
+fn before_name(alloc: Global, reading: &mut Reading, c: char) -> Result<bool, NoMemory>
+    ensures { IfOk result (λ goes. (if goes then Some reading.new else None) ≡ wanted.before_name reading.old c) }
+{
+    if is_spacing(c) {
+        reading.spaced = true;
+        return Ok(true);
+    }
+    if !reading.spaced || !is_name_character(c) {
+        return Ok(false);
+    }
+    reading.word = one(alloc, c)?;
+    Ok(true)
+}
+
+fn before_next(alloc: Global, reading: &mut Reading, c: char) -> Result<bool, NoMemory>
+    ensures { IfOk result (λ goes. (if goes then Some reading.new else None) ≡ wanted.before_next reading.old c) }
+{
+    if c == ')' {
+        put_slot(alloc, reading, Slot::Close, true);
+        return Ok(true);
+    }
+    before_keyword(alloc, reading, c)
+}
+
+fn before_value(alloc: Global, reading: &mut Reading, c: char) -> Result<bool, NoMemory>
+    ensures { IfOk result (λ goes. (if goes then Some reading.new else None) ≡ wanted.before_value reading.old c) }
+{
+    if is_spacing(c) {
+        return Ok(true);
+    }
+    let next = match c {
+        ':' => Slot::Routed,
+        '\'' => Slot::Quoted,
+        _ => return Ok(false),
+    };
+    put_slot(alloc, reading, next, true);
+    Ok(true)
+}
+
+/// Stands before a slot, where a word may begin at once or only behind spacing.
+fn put_slot(alloc: Global, reading: &mut Reading, next: Slot, spaced: bool)
+    ensures { reading.new ≡ wanted.moved reading.old next spaced }
+{
+    reading.word = List::new(alloc);
+    reading.spaced = spaced;
+    reading.slot = next;
+}
+
+fn put_condition(
+    alloc: Global,
+    reading: &mut Reading,
+    value: Compared,
+    spaced: bool,
+) -> Result<(), NoMemory>
+    ensures { OnOk result (reading.new ≡ wanted.with_condition reading.old value spaced) }
+{
+    let column = text_of(alloc, reading.tested.inner().as_slice())?;
+    reading.conditions.push(Condition { column, value })?;
+    put_slot(alloc, reading, Slot::Next, spaced);
+    Ok(())
+}
+
+/// Goes on behind a whole word.
+fn finish(alloc: Global, reading: &mut Reading) -> Result<(), NoMemory>
+    ensures { OnOk result (reading.new ≡ wanted.finished_at reading.old.slot reading.old) }
+{
+    match reading.slot {
+        Slot::Column | Slot::Table | Slot::Tested | Slot::Routed => finish_name(alloc, reading),
+        _ => {
+            finish_keyword(alloc, reading);
+            Ok(())
+        }
+    }
+}
+
+fn finish_name(alloc: Global, reading: &mut Reading) -> Result<(), NoMemory>
+    requires { wanted.takes_name reading.old.slot ≡ true }
+    ensures { OnOk result (reading.new ≡ wanted.finished_at reading.old.slot reading.old) }
+{
+    let word = List::of(reading.word.inner().as_slice().to_vec(alloc)?);
+    match reading.slot {
+        Slot::Column => {
+            reading.column = word;
+            put_slot(alloc, reading, Slot::From, false);
+        }
+        Slot::Table => {
+            reading.table = word;
+            put_slot(alloc, reading, Slot::Where, false);
+        }
+        Slot::Tested => {
+            reading.tested = word;
+            put_slot(alloc, reading, Slot::Equals, false);
+        }
+        _ => {
+            let name = text_of(alloc, word.inner().as_slice())?;
+            return put_condition(alloc, reading, Compared::Routed(name), false);
+        }
+    }
+    Ok(())
+}
+
+fn finish_keyword(alloc: Global, reading: &mut Reading)
+    requires { wanted.takes_name reading.old.slot ≡ false }
+    ensures { reading.new ≡ wanted.finished_at reading.old.slot reading.old }
+{
+    let next = match reading.slot {
+        Slot::Prefix => Slot::Dot,
+        Slot::Which => {
+            reading.by = node_column(reading.word.inner().as_slice());
+            Slot::In
+        }
+        Slot::In => Slot::Open,
+        Slot::Select => Slot::Column,
+        Slot::From => Slot::Table,
+        Slot::Where | Slot::Next => Slot::Tested,
+        _ => return,
+    };
+    put_slot(alloc, reading, next, false);
+}
+
+fn node_column(word: &[char]) -> NodeColumn
+    ensures { result ≡ wanted.node_column word.now }
+{
+    if word == NODE_ID.as_slice() {
+        return NodeColumn::NodeId;
+    }
+    NodeColumn::ExternalId
+}
+
+fn is_spacing(c: char) -> bool
+    ensures { result ≡ wanted.is_spacing c }
+{
+    c == ' ' || c == '\t' || c == '\r' || c == '\n'
+}
+
+fn takes_name(slot: Slot) -> bool
+    ensures { result ≡ wanted.takes_name slot }
+{
+    matches!(
+        slot,
+        Slot::Column | Slot::Table | Slot::Tested | Slot::Routed
+    )
+}
+
+fn is_keyword(slot: Slot, word: &[char]) -> bool
+    ensures { result ≡ wanted.is_keyword slot word.now }
+{
+    match slot {
+        Slot::Prefix => word == NODE.as_slice(),
+        Slot::Which => word == EXTERNAL_ID.as_slice() || word == NODE_ID.as_slice(),
+        Slot::In => word == IN.as_slice(),
+        Slot::Select => word == SELECT.as_slice(),
+        Slot::From => word == FROM.as_slice(),
+        Slot::Where => word == WHERE.as_slice(),
+        Slot::Next => word == AND.as_slice(),
+        _ => false,
+    }
+}
+
+fn begins_keyword(slot: Slot, word: &[char]) -> bool
+    ensures { result ≡ wanted.begins_keyword slot word.now }
+{
+    match slot {
+        Slot::Prefix => begins(&NODE, word),
+        Slot::Which => begins(&EXTERNAL_ID, word) || begins(&NODE_ID, word),
+        Slot::In => begins(&IN, word),
+        Slot::Select => begins(&SELECT, word),
+        Slot::From => begins(&FROM, word),
+        Slot::Where => begins(&WHERE, word),
+        Slot::Next => begins(&AND, word),
+        _ => false,
+    }
+}

@@ -1,0 +1,401 @@
+ghost use Rattle.std.specs.Prelude.{◌≡◌, ◌∷◌, [], IfOk, if◌then◌else◌};
+ghost use Rattle.std.specs.Str.{chars};
+ghost use Rattle.sds_expressions.specs.ColumnTests as wanted;
+
+use crate::letters::{begins, characters_of, is_name_character, one, text_of};
+use crate::tested::{ColumnTest, Operand};
+use sds_base::{List, NoMemory};
+use std::alloc::Global;
+
+const NODE_ID: [char; 7] = ['N', 'O', 'D', 'E', '_', 'I', 'D'];
+
+const EXTERNAL_ID: [char; 11] = ['E', 'X', 'T', 'E', 'R', 'N', 'A', 'L', '_', 'I', 'D'];
+
+const NODE_GROUP_ID: [char; 13] = [
+    'N', 'O', 'D', 'E', '_', 'G', 'R', 'O', 'U', 'P', '_', 'I', 'D',
+];
+
+const NULL: [char; 4] = ['N', 'U', 'L', 'L'];
+
+/// Where the reading of a `column` router's expression stands.
+#[derive(Clone, Copy, Debug)]
+pub enum Part {
+    /// Before a test.
+    Before,
+    /// Behind a line feed, which may be the end.
+    Fresh,
+    /// In a name, and behind it.
+    Name,
+    Named,
+    /// Between `!` and `=`.
+    Bang,
+    /// Behind the sign.
+    Sign,
+    /// In a word behind a colon.
+    Colon,
+    /// In a bare text.
+    Bare,
+    /// Between quotes.
+    Quoted,
+    /// Behind a quote that ends the text or is the first of two.
+    Quote,
+    /// Behind a test and a space.
+    Behind,
+    /// Behind the first letter of `or`, and behind both.
+    Letter,
+    Joined,
+}
+
+/// What is read of a `column` router's expression so far.
+#[derive(Debug, Drop)]
+pub struct Reading {
+    pub tests: List<ColumnTest>,
+    pub name: List<char>,
+    pub differs: bool,
+    pub text: List<char>,
+    pub part: Part,
+}
+
+/// The tests of a `column` router's expression, or the place of the first character, from 0, from which no continuation is of
+/// the form; where the text ends too early that is its length.
+pub fn column_tests(alloc: Global, text: &str) -> Result<Result<List<ColumnTest>, usize>, NoMemory>
+    ensures { IfOk result (λ read. read ≡ wanted.tests_of (chars text.now)) }
+{
+    let characters = characters_of(alloc, text)?;
+    read_tests(alloc, characters.as_slice())
+}
+
+fn read_tests(alloc: Global, text: &[char]) -> Result<Result<List<ColumnTest>, usize>, NoMemory>
+    ensures { IfOk result (λ read. read ≡ wanted.tests_of text.now) }
+{
+    let mut reading = beginning(alloc);
+    for (place, c) in text.iter().enumerate() {
+        if !step(alloc, &mut reading, *c)? {
+            return Ok(Err(place));
+        }
+    }
+    match tests_ended(alloc, reading)? {
+        Some(tests) => Ok(Ok(tests)),
+        None => Ok(Err(text.len())),
+    }
+}
+
+fn beginning(alloc: Global) -> Reading
+    ensures { result ≡ wanted.beginning }
+{
+    Reading {
+        tests: List::new(alloc),
+        name: List::new(alloc),
+        differs: false,
+        text: List::new(alloc),
+        part: Part::Before,
+    }
+}
+
+/// The tests of a text that ends here, where it may.
+fn tests_ended(alloc: Global, reading: Reading) -> Result<Option<List<ColumnTest>>, NoMemory>
+    ensures { IfOk result (λ tests. tests ≡ wanted.tests_at reading.part reading) }
+{
+    let text = reading.text.inner().as_slice();
+    let operand = match reading.part {
+        Part::Behind | Part::Fresh => return Ok(Some(reading.tests)),
+        Part::Colon => operand_named(text),
+        Part::Bare => Some(bare_operand(alloc, text)?),
+        Part::Quote => Some(Operand::Text(text_of(alloc, text)?)),
+        _ => None,
+    };
+    last_test(alloc, reading, operand)
+}
+
+fn last_test(
+    alloc: Global,
+    reading: Reading,
+    operand: Option<Operand>,
+) -> Result<Option<List<ColumnTest>>, NoMemory>
+    ensures { IfOk result (λ tests. tests ≡ wanted.tests_ended reading operand) }
+{
+    match operand {
+        None => Ok(None),
+        Some(operand) => {
+            let mut reading = reading;
+            let test = test_of(alloc, &reading, operand)?;
+            reading.tests.push(test)?;
+            Ok(Some(reading.tests))
+        }
+    }
+}
+
+/// Reads a character, and says whether a continuation is of the form.
+fn step(alloc: Global, reading: &mut Reading, c: char) -> Result<bool, NoMemory>
+    ensures { IfOk result (λ goes. (if goes then Some reading.new else None) ≡ wanted.step reading.old c) }
+{
+    match reading.part {
+        Part::Before | Part::Fresh => step_before(alloc, reading, c),
+        Part::Name => step_name(alloc, reading, c),
+        Part::Named => step_named(alloc, reading, c),
+        Part::Bang => step_bang(alloc, reading, c),
+        Part::Sign => step_sign(alloc, reading, c),
+        Part::Colon => step_colon(alloc, reading, c),
+        Part::Bare => step_bare(alloc, reading, c),
+        Part::Quoted => step_quoted(alloc, reading, c),
+        Part::Quote => step_quote(alloc, reading, c),
+        Part::Behind => step_behind(alloc, reading, c),
+        Part::Letter => step_letter(alloc, reading, c),
+        Part::Joined => step_joined(alloc, reading, c),
+    }
+}
+
+fn step_before(alloc: Global, reading: &mut Reading, c: char) -> Result<bool, NoMemory>
+    ensures { IfOk result (λ goes. (if goes then Some reading.new else None) ≡ wanted.step_before reading.old c) }
+{
+    if c == ' ' {
+        reading.part = Part::Before;
+        return Ok(true);
+    }
+    if !is_name_character(c) {
+        return Ok(false);
+    }
+    reading.name = one(alloc, c)?;
+    reading.part = Part::Name;
+    Ok(true)
+}
+
+fn step_named(_alloc: Global, reading: &mut Reading, c: char) -> Result<bool, NoMemory>
+    ensures { IfOk result (λ goes. (if goes then Some reading.new else None) ≡ wanted.step_named reading.old c) }
+{
+    match c {
+        ' ' => reading.part = Part::Named,
+        '=' => {
+            reading.differs = false;
+            reading.part = Part::Sign;
+        }
+        '!' => reading.part = Part::Bang,
+        _ => return Ok(false),
+    }
+    Ok(true)
+}
+
+fn step_name(alloc: Global, reading: &mut Reading, c: char) -> Result<bool, NoMemory>
+    ensures { IfOk result (λ goes. (if goes then Some reading.new else None) ≡ wanted.step_name reading.old c) }
+{
+    if !is_name_character(c) {
+        if !is_whole(reading.name.inner().as_slice()) {
+            return Ok(false);
+        }
+        return step_named(alloc, reading, c);
+    }
+    reading.name.push(c)?;
+    Ok(is_short(reading.name.inner().as_slice()))
+}
+
+fn step_bang(_alloc: Global, reading: &mut Reading, c: char) -> Result<bool, NoMemory>
+    ensures { IfOk result (λ goes. (if goes then Some reading.new else None) ≡ wanted.step_bang reading.old c) }
+{
+    if c != '=' {
+        return Ok(false);
+    }
+    reading.differs = true;
+    reading.part = Part::Sign;
+    Ok(true)
+}
+
+fn step_sign(alloc: Global, reading: &mut Reading, c: char) -> Result<bool, NoMemory>
+    ensures { IfOk result (λ goes. (if goes then Some reading.new else None) ≡ wanted.step_sign reading.old c) }
+{
+    if c == ' ' {
+        return Ok(true);
+    }
+    if c == '\'' {
+        reading.text = List::new(alloc);
+        reading.part = Part::Quoted;
+        return Ok(true);
+    }
+    if c == ':' {
+        reading.text = List::new(alloc);
+        reading.part = Part::Colon;
+        return Ok(true);
+    }
+    if !is_bare_character(c) {
+        return Ok(false);
+    }
+    reading.text = one(alloc, c)?;
+    reading.part = Part::Bare;
+    Ok(true)
+}
+
+fn step_colon(alloc: Global, reading: &mut Reading, c: char) -> Result<bool, NoMemory>
+    ensures { IfOk result (λ goes. (if goes then Some reading.new else None) ≡ wanted.step_colon reading.old c) }
+{
+    let mut longer = List::of(reading.text.inner().as_slice().to_vec(alloc)?);
+    longer.push(c)?;
+    if begins_word(longer.inner().as_slice()) {
+        reading.text = longer;
+        return Ok(true);
+    }
+    let operand = operand_named(reading.text.inner().as_slice());
+    ended(alloc, reading, c, operand)
+}
+
+fn step_bare(alloc: Global, reading: &mut Reading, c: char) -> Result<bool, NoMemory>
+    ensures { IfOk result (λ goes. (if goes then Some reading.new else None) ≡ wanted.step_bare reading.old c) }
+{
+    if is_bare_character(c) {
+        reading.text.push(c)?;
+        return Ok(true);
+    }
+    let operand = bare_operand(alloc, reading.text.inner().as_slice())?;
+    ended(alloc, reading, c, Some(operand))
+}
+
+fn step_quoted(_alloc: Global, reading: &mut Reading, c: char) -> Result<bool, NoMemory>
+    ensures { IfOk result (λ goes. (if goes then Some reading.new else None) ≡ wanted.step_quoted reading.old c) }
+{
+    if c == '\'' {
+        reading.part = Part::Quote;
+        return Ok(true);
+    }
+    reading.text.push(c)?;
+    Ok(true)
+}
+
+fn step_quote(alloc: Global, reading: &mut Reading, c: char) -> Result<bool, NoMemory>
+    ensures { IfOk result (λ goes. (if goes then Some reading.new else None) ≡ wanted.step_quote reading.old c) }
+{
+    if c == '\'' {
+        reading.text.push(c)?;
+        reading.part = Part::Quoted;
+        return Ok(true);
+    }
+    let text = text_of(alloc, reading.text.inner().as_slice())?;
+    ended(alloc, reading, c, Some(Operand::Text(text)))
+}
+
+fn step_behind(_alloc: Global, reading: &mut Reading, c: char) -> Result<bool, NoMemory>
+    ensures { IfOk result (λ goes. (if goes then Some reading.new else None) ≡ wanted.step_behind reading.old c) }
+{
+    match c {
+        ' ' => {}
+        '\n' => reading.part = Part::Fresh,
+        'o' => reading.part = Part::Letter,
+        _ => return Ok(false),
+    }
+    Ok(true)
+}
+
+fn step_letter(_alloc: Global, reading: &mut Reading, c: char) -> Result<bool, NoMemory>
+    ensures { IfOk result (λ goes. (if goes then Some reading.new else None) ≡ wanted.step_letter reading.old c) }
+{
+    if c != 'r' {
+        return Ok(false);
+    }
+    reading.part = Part::Joined;
+    Ok(true)
+}
+
+fn step_joined(_alloc: Global, reading: &mut Reading, c: char) -> Result<bool, NoMemory>
+    ensures { IfOk result (λ goes. (if goes then Some reading.new else None) ≡ wanted.step_joined reading.old c) }
+{
+    if c != ' ' {
+        return Ok(false);
+    }
+    reading.part = Part::Before;
+    Ok(true)
+}
+
+/// What a value leads to, behind which a space or a line feed stands.
+fn ended(
+    alloc: Global,
+    reading: &mut Reading,
+    c: char,
+    operand: Option<Operand>,
+) -> Result<bool, NoMemory>
+    ensures { IfOk result (λ goes. (if goes then Some reading.new else None) ≡ wanted.ended reading.old c operand) }
+{
+    let Some(operand) = operand else {
+        return Ok(false);
+    };
+    let next = match c {
+        ' ' => Part::Behind,
+        '\n' => Part::Fresh,
+        _ => return Ok(false),
+    };
+    let test = test_of(alloc, reading, operand)?;
+    reading.tests.push(test)?;
+    reading.part = next;
+    Ok(true)
+}
+
+fn test_of(alloc: Global, reading: &Reading, operand: Operand) -> Result<ColumnTest, NoMemory>
+    ensures { IfOk result (λ test. test ≡ wanted.test_of reading.now operand) }
+{
+    let name = reading.name.inner().as_slice();
+    Ok(ColumnTest {
+        name: text_of(alloc, column_name(name))?,
+        old: asks_old(name),
+        differs: reading.differs,
+        operand,
+    })
+}
+
+fn asks_old(name: &[char]) -> bool
+    ensures { result ≡ wanted.asks_old name.now }
+{
+    begins(name, &['O', 'L', 'D', '_'])
+}
+
+fn column_name(name: &[char]) -> &[char]
+    ensures { result.now ≡ wanted.column_name name.now }
+{
+    match name {
+        ['O', 'L', 'D', '_', rest @ ..] => rest,
+        _ => name,
+    }
+}
+
+fn is_short(name: &[char]) -> bool
+    ensures { result ≡ wanted.is_short name.now }
+{
+    column_name(name).len() <= 50
+}
+
+fn is_whole(name: &[char]) -> bool
+    ensures { result ≡ wanted.is_whole name.now }
+{
+    !column_name(name).is_empty()
+}
+
+fn is_bare_character(c: char) -> bool
+    ensures { result ≡ wanted.is_bare_character c }
+{
+    is_name_character(c) || c == '.'
+}
+
+fn operand_named(word: &[char]) -> Option<Operand>
+    ensures { result ≡ wanted.operand_named word.now }
+{
+    if word == NODE_ID.as_slice() {
+        return Some(Operand::NodeId);
+    }
+    if word == EXTERNAL_ID.as_slice() {
+        return Some(Operand::ExternalId);
+    }
+    if word == NODE_GROUP_ID.as_slice() {
+        return Some(Operand::NodeGroupId);
+    }
+    None
+}
+
+fn begins_word(front: &[char]) -> bool
+    ensures { result ≡ wanted.begins_word front.now }
+{
+    begins(&NODE_ID, front) || begins(&EXTERNAL_ID, front) || begins(&NODE_GROUP_ID, front)
+}
+
+fn bare_operand(alloc: Global, text: &[char]) -> Result<Operand, NoMemory>
+    ensures { IfOk result (λ operand. operand ≡ wanted.bare_operand text.now) }
+{
+    if text == NULL.as_slice() {
+        return Ok(Operand::Null);
+    }
+    Ok(Operand::Text(text_of(alloc, text)?))
+}
