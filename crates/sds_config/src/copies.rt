@@ -1,7 +1,7 @@
 use crate::{
     Action, Algorithm, ChannelDef, ColumnKind, ColumnPolicy, Config, ConflictDef, DeleteAction,
-    DetectType, LinkDef, Point, ResolveType, RouterDef, RouterExpression, RouterKind, TransformColumn, TransformDef,
-    TriggerDef, TriggerRouterDef,
+    DetectType, LinkDef, Point, ResolveType, RouterDef, RouterExpression, RouterKind,
+    TransformColumn, TransformDef, TriggerDef, TriggerRouterDef,
 };
 use sds_base::{NoMemory, Same, Twin};
 use std::alloc::Global;
