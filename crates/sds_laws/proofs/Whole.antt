@@ -40,20 +40,27 @@ use Rattle.sds_laws.proofs.Each.{Each, each_append, all_from_each}
 use Rattle.sds_laws.proofs.Link.{and_left, and_right}
 
 -- VALUES. A value that was read is carried as a text that reads again.
-no_null : (kind : Kind) → fits kind value.Null ≡ true → ⊥
-no_null Kinds.Integer fit = cc
-no_null (Kinds.Decimal s) fit = cc
-no_null (Kinds.Varchar n) fit = cc
-no_null Kinds.Timestamp fit = cc
-no_null (Kinds.Varbinary n) fit = cc
+abbrev id_column : ColumnDef
+id_column = record { name = codes "id"; kind = Kinds.Integer; not_null = true; parent = None }
 
-back_allowed : (column : ColumnDef) (v : Value) → fits column.kind v ≡ true → is_allowed column (field_of v) ≡ true
-back_allowed column value.Null fit = absurd (no_null column.kind fit)
-back_allowed column (value.Integer z) fit = ap is_ok (reads_back column.kind Base64 (value.Integer z) fit)
-back_allowed column (value.Decimal z) fit = ap is_ok (reads_back column.kind Base64 (value.Decimal z) fit)
-back_allowed column (value.Text text) fit = ap is_ok (reads_back column.kind Base64 (value.Text text) fit)
-back_allowed column (value.Stamp day nano) fit = ap is_ok (reads_back column.kind Base64 (value.Stamp day nano) fit)
-back_allowed column (value.Bin bytes) fit = ap is_ok (reads_back column.kind Base64 (value.Bin bytes) fit)
+abbrev text_column : ColumnDef
+text_column = record { name = codes "text"; kind = Kinds.Varchar 40; not_null = false; parent = None }
+
+number_allowed : (v : Value) → fits Kinds.Integer v ≡ true → is_allowed id_column (field_of v) ≡ true
+number_allowed value.Null fit = absurd (cc)
+number_allowed (value.Integer z) fit = ap is_ok (reads_back Kinds.Integer Base64 (value.Integer z) refl fit)
+number_allowed (value.Decimal z) fit = absurd (cc)
+number_allowed (value.Text text) fit = absurd (cc)
+number_allowed (value.Stamp day nano) fit = absurd (cc)
+number_allowed (value.Bin bytes) fit = absurd (cc)
+
+text_allowed : (v : Value) → fits (Kinds.Varchar 40) v ≡ true → is_allowed text_column (field_of v) ≡ true
+text_allowed value.Null fit = absurd (cc)
+text_allowed (value.Integer z) fit = absurd (cc)
+text_allowed (value.Decimal z) fit = absurd (cc)
+text_allowed (value.Text text) fit = ap is_ok (reads_back (Kinds.Varchar 40) Base64 (value.Text text) refl fit)
+text_allowed (value.Stamp day nano) fit = absurd (cc)
+text_allowed (value.Bin bytes) fit = absurd (cc)
 
 integer_by : (a b : Bool) (text : List ℕ) (v : Value) → is_in_range (integer_value text) ≡ b
     → (if a then (if b then Ok (value.Integer (integer_value text)) else Err OutOfRange) else Err BadText) ≡ Ok v → fits Kinds.Integer v ≡ true
@@ -74,14 +81,8 @@ varchar_by false false n text v scalars zero short e = absurd (cc)
 varchar_fits : (n : ℕ) (text : List ℕ) (v : Value) → all_scalars text ≡ true → value_of (Kinds.Varchar n) Base64 text ≡ Ok v → fits (Kinds.Varchar n) v ≡ true
 varchar_fits n text v scalars e = varchar_by (has_zero text) (nat_le (length text) n) n text v scalars refl refl e
 
-abbrev id_column : ColumnDef
-id_column = record { name = codes "id"; kind = Kinds.Integer; not_null = true; parent = None }
-
-abbrev text_column : ColumnDef
-text_column = record { name = codes "text"; kind = Kinds.Varchar 40; not_null = false; parent = None }
-
 id_by : (text : List ℕ) (r : Result Value ValueRefusal) → value_of Kinds.Integer Base64 text ≡ r → is_ok r ≡ true → is_allowed id_column (field_of (result_unwrap_or r value.Null)) ≡ true
-id_by text (Ok v) e is = back_allowed id_column v (integer_fits text v e)
+id_by text (Ok v) e is = number_allowed v (integer_fits text v e)
 id_by text (Err refusal) e is = absurd (cc)
 
 id_back : (f : Field) → is_allowed id_column f ≡ true → is_allowed id_column (field_of (field_value Kinds.Integer f)) ≡ true
@@ -90,7 +91,7 @@ id_back (Text text) is = id_by text (value_of Kinds.Integer Base64 text) refl is
 
 text_by : (text : List ℕ) (r : Result Value ValueRefusal) → all_scalars text ≡ true → value_of (Kinds.Varchar 40) Base64 text ≡ r → is_ok r ≡ true
     → is_allowed text_column (field_of (result_unwrap_or r value.Null)) ≡ true
-text_by text (Ok v) scalars e is = back_allowed text_column v (varchar_fits 40 text v scalars e)
+text_by text (Ok v) scalars e is = text_allowed v (varchar_fits 40 text v scalars e)
 text_by text (Err refusal) scalars e is = absurd (cc)
 
 text_back : (f : Field) → is_of_characters f ≡ true → is_allowed text_column f ≡ true → is_allowed text_column (field_of (field_value (Kinds.Varchar 40) f)) ≡ true
