@@ -1,10 +1,9 @@
 -- A text that begins with another.
-use Rattle.std.proofs.Common.{◌≡◌, ◌≤◌, ◌<◌, ℕ, Bool, true, false, ◌==◌, nat_lt, List, [], ◌∷◌, ◌++◌, length, drop, take, Option, Some, None, MatchOption, option_map, Bor, refl, sym, ap, ◌∙◌, suc, cond, rules, arith, add-one, length-drop, ◌+◌, inl, inr}
-use Rattle.std.specs.List.{starts_with, position_or_len, before_first, after_first}
+use Rattle.std.proofs.Common.{◌≡◌, ◌<◌, ℕ, Bool, true, false, ◌==◌, List, [], ◌∷◌, length, drop, take, Option, Some, None, MatchOption, option_map, Bor, refl, sym, ap, ◌∙◌, suc, arith, add-one, length-drop, ◌+◌}
+use Rattle.std.specs.List.{position_or_len, before_first, after_first}
 use Rattle.std.specs.Str.{IsCharBoundary}
 use Rattle.std.specs.Str.Pattern.{FindsTextPrefix, StripsPrefix}
 use Rattle.std.proofs.lemmas.Str.Pattern.{starts_text}
-use Rattle.std.proofs.lemmas.Bool.Decides.{nat_tests}
 use native.Mathlib.Numerals.{one-add}
 use Rattle.sds_expressions.specs.Pieces.{behind, split, onto_first}
 

@@ -1,5 +1,5 @@
 -- The expressions of a transform's columns, by their bytes in UTF-8.
-use Rattle.std.specs.Prelude.{ℕ, ℤ, pos, neg_ℤ, ◌==◌, nat_lt, if◌then◌else◌, List, [], ◌∷◌, ◌++◌, codes, Option, Some, None, option_map, option_and_then}
+use Rattle.std.specs.Prelude.{ℕ, ℤ, pos, neg_ℤ, ◌==◌, if◌then◌else◌, List, [], ◌∷◌, ◌++◌, codes, Option, Some, None, option_map, option_and_then}
 use Rattle.std.specs.Str.{bytes_eq, chars}
 use Rattle.sds_expressions.specs.declared.computed.NodeWord.{NodeWord}
 use Rattle.sds_expressions.specs.declared.computed.NodeWord.TheVariants.{SourceNode, TargetNode}

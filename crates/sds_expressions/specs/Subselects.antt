@@ -6,7 +6,6 @@ use Rattle.std.specs.List.{starts_with}
 use Rattle.std.specs.Str.{bytes_eq}
 use Rattle.sds_expressions.specs.declared.subselect.Compared.{Compared}
 use Rattle.sds_expressions.specs.declared.subselect.Compared.TheVariants.{Routed, Text}
-use Rattle.sds_expressions.specs.declared.subselect.Condition.{Condition}
 use Rattle.sds_expressions.specs.declared.subselect.NodeColumn.{NodeColumn}
 use Rattle.sds_expressions.specs.declared.subselect.NodeColumn.TheVariants.{ExternalId, NodeId}
 use Rattle.sds_expressions.specs.declared.subselect.Subselect.{Subselect}

@@ -71,7 +71,7 @@ both_in_step p q = record {
   to_peers = all_two (λ (h : History). EachToPeer h.opening.peers (batches_of one h.opening h.acts)) (beginning p) (beginning q) (All-nil _) (All-nil _);
 }
 
-shaped_in_step : (place : Place) (w : World) (count : ℕ) → Shaped place w count → InStep one w
+pub shaped_in_step : (place : Place) (w : World) (count : ℕ) → Shaped place w count → InStep one w
 shaped_in_step place w count shaped =
     by_four (InStep one w) place.openings (place.openings == 4) refl shaped.most
     (λ lt. early (InStep one) place w count shaped lt none_in_step (first_in_step _) (both_in_step _ _))
@@ -90,39 +90,47 @@ judged_sound : (is_over : Bool) (text : List ℕ) → AreSound (judged is_over t
 judged_sound true text = lines_sound (without_last (lines_of text))
 judged_sound false text = lines_sound (lines_of text)
 
-abbrev Always : World → List WorldEvent → Type 0
-Always w events = (n : ℕ) → InStep one (world_after one w (take n events))
+abbrev Always : (World → Type 0) → World → List WorldEvent → Type 0
+Always P w events = (n : ℕ) → P (world_after one w (take n events))
 
-no_events : (w : World) → InStep one w → Always w []
-no_events w is zero = is
-no_events w is (suc n) = is
+no_events : (P : World → Type 0) (w : World) → P w → Always P w []
+no_events P w is zero = is
+no_events P w is (suc n) = is
 
-one_event : (w : World) (o : Option WorldEvent) (events : List WorldEvent) → InStep one w → Always (world_by o w) events → Always w (onto_events o events)
-one_event w None events is on zero = on zero
-one_event w None events is on (suc n) = on (suc n)
-one_event w (Some event) events is on zero = is
-one_event w (Some event) events is on (suc n) = on n
+one_event : (P : World → Type 0) (w : World) (o : Option WorldEvent) (events : List WorldEvent) → P w → Always P (world_by o w) events → Always P w (onto_events o events)
+one_event P w None events is on zero = on zero
+one_event P w None events is on (suc n) = on (suc n)
+one_event P w (Some event) events is on zero = is
+one_event P w (Some event) events is on (suc n) = on n
 
-by_standing : (older lines : List Line) (line : Line) (t : Bool) → may_stand older line ≡ t → InStep one (world_of older)
-    → (may_stand older line ≡ true → Always (world_of (line ∷ older)) (events_from (line ∷ older) lines)) → Always (world_of older) (events_from older (line ∷ lines))
-by_standing older lines line true is here on =
-    subst (λ (events : List WorldEvent). Always (world_of older) events) (sym (stood is)) (one_event (world_of older) (completed (place_of older) line) (events_from (line ∷ older) lines) here (on is)) where
+by_standing : (P : World → Type 0) (older lines : List Line) (line : Line) (t : Bool) → may_stand older line ≡ t → P (world_of older)
+    → (may_stand older line ≡ true → Always P (world_of (line ∷ older)) (events_from (line ∷ older) lines)) → Always P (world_of older) (events_from older (line ∷ lines))
+by_standing P older lines line true is here on =
+    subst (λ (events : List WorldEvent). Always P (world_of older) events) (sym (stood is)) (one_event P (world_of older) (completed (place_of older) line) (events_from (line ∷ older) lines) here (on is)) where
       stood : may_stand older line ≡ true → events_from older (line ∷ lines) ≡ onto_events (completed (place_of older) line) (events_from (line ∷ older) lines)
       stood is = rw is refl
-by_standing older lines line false is here on =
-    subst (λ (events : List WorldEvent). Always (world_of older) events) (sym (stopped is)) (no_events (world_of older) here) where
+by_standing P older lines line false is here on =
+    subst (λ (events : List WorldEvent). Always P (world_of older) events) (sym (stopped is)) (no_events P (world_of older) here) where
       stopped : may_stand older line ≡ false → events_from older (line ∷ lines) ≡ []
       stopped is = rw is refl
 
-always_from : (older lines : List Line) → AreSound lines → Shaped (place_of older) (world_of older) (length older) → Always (world_of older) (events_from older lines)
-always_from older [] sound shaped = no_events (world_of older) (shaped_in_step (place_of older) (world_of older) (length older) shaped)
-always_from older (line ∷ lines) sound shaped =
-    by_standing older lines line (may_stand older line) refl (shaped_in_step (place_of older) (world_of older) (length older) shaped)
-    (λ is. always_from (line ∷ older) lines sound.1
+-- what holds of every shape holds after each event of lines
+abbrev pub OfShapes : (World → Type 0) → Type 0
+OfShapes P = (place : Place) (w : World) (count : ℕ) → Shaped place w count → P w
+
+always_from : (P : World → Type 0) → OfShapes P → (older lines : List Line) → AreSound lines → Shaped (place_of older) (world_of older) (length older) → Always P (world_of older) (events_from older lines)
+always_from P holds older [] sound shaped = no_events P (world_of older) (holds (place_of older) (world_of older) (length older) shaped)
+always_from P holds older (line ∷ lines) sound shaped =
+    by_standing P older lines line (may_stand older line) refl (holds (place_of older) (world_of older) (length older) shaped)
+    (λ is. always_from P holds (line ∷ older) lines sound.1
     (shaped_next (place_of older) (world_of older) (length older) (last_in (world_of older) line) (settled_in (world_of older)) line shaped sound.0 is))
 
+pub shaped_always : (P : World → Type 0) → OfShapes P → (text : List ℕ) (n : ℕ) → P (world_after one empty_world (take n (events_of text)))
+shaped_always P holds text n =
+    always_from P holds [] (judged (is_long text) (take (most_bytes + 1) text)) (judged_sound (is_long text) (take (most_bytes + 1) text)) shaped_first n
+
 pub always : (text : List ℕ) (n : ℕ) → InStep one (world_after one empty_world (take n (events_of text)))
-always text n = always_from [] (judged (is_long text) (take (most_bytes + 1) text)) (judged_sound (is_long text) (take (most_bytes + 1) text)) shaped_first n
+always text n = shaped_always (InStep one) shaped_in_step text n
 
 -- whatever text is told
 pub always_told : (o : Option (List ℕ)) → IfSome o (λ (text : List ℕ). (n : ℕ) → InStep one (world_after one empty_world (take n (events_of text))))

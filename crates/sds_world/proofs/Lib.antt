@@ -1,6 +1,7 @@
 pub mod Always
 pub mod Answering
 pub mod Cuts
+pub mod Folds
 pub mod Fronts
 pub mod Joined
 pub mod Loading

@@ -1,4 +1,5 @@
 pub mod Acking
+pub mod Headline
 pub mod Looking
 pub mod Played
 pub mod Playing

@@ -4,6 +4,7 @@
 mod fields;
 mod fixed;
 mod forms;
+mod headline;
 mod line;
 mod lines;
 mod message;
@@ -16,6 +17,7 @@ mod words;
 
 pub use fixed::one;
 pub use forms::read_line;
+pub use headline::{routed_changes_go_once, tables_are_folds};
 pub use line::{Line, Opening};
 pub use lines::split_line;
 pub use place::{Draft, Place, fits, take_line};

@@ -1,0 +1,42 @@
+-- What the program says and writes of a rehearsal is what the scenario's text has.
+use Rattle.std.proofs.Common.{◌≡◌, ℕ, List, [], ◌++◌, take, Option, None, Some, Result, refl, sym, ap, ◌∙◌, arith, append-nil}
+use Rattle.std.specs.Prelude.{IfSome}
+use Rattle.sds_outside.specs.Told.{after_told}
+use Rattle.sds_world.specs.declared.rehearsal.BadLine.{BadLine}
+use Rattle.sds_world.specs.declared.rehearsal.WorldRefusal.{WorldRefusal}
+use Rattle.sds_world.specs.Played.{refusal_of, screen, ending, Shows}
+use Rattle.symds.specs.declared.status.Status.{Status}
+use Rattle.symds.specs.declared.status.Status.TheVariants.{NoMemory}
+use Rattle.symds.specs.Rehearsed.{status_by, status_of, Tells}
+
+status_ends : (o : Option BadLine) → status_by (ending o) ≡ status_of o
+status_ends None = refl
+status_ends (Some bad) = refl
+
+tells : (text : List ℕ) (result : Result (Unit {0}) WorldRefusal) (status : Status) (old new : Option (List ℕ)) → status ≡ status_by result → Shows text result old new → Tells text status old new
+tells text result status old new is shows = record {
+  ends = λ read write memory.
+    let both : (result ≡ ending (refusal_of text)) × (new ≡ after_told old (screen text)) =
+        shows.ends (λ failed. read (is ∙ ap status_by failed)) (λ failed. write (is ∙ ap status_by failed)) (λ failed. memory (is ∙ ap status_by failed)) in (
+      is ∙ (ap status_by both.0 ∙ status_ends (refusal_of text)),
+      both.1,
+    );
+  part = shows.part;
+}
+
+pub told_so : (o : Option (List ℕ)) (result : Result (Unit {0}) WorldRefusal) (status : Status) (old new : Option (List ℕ)) → status ≡ status_by result
+    → IfSome o (λ (text : List ℕ). Shows text result old new) → IfSome o (λ (text : List ℕ). Tells text status old new)
+told_so None result status old new is shows = tt
+told_so (Some text) result status old new is shows = tells text result status old new is shows
+
+-- for want of memory, nothing is written
+unchanged : (told : Option (List ℕ)) → told ≡ after_told told []
+unchanged None = refl
+unchanged (Some front) = ap (λ (l : List ℕ). Some l) (sym (append-nil front))
+
+unwritten : (told : Option (List ℕ)) (text : List ℕ) → told ≡ after_told told (take 0 text)
+unwritten told text = unchanged told
+
+pub untold : (o : Option (List ℕ)) (status : Status) (told : Option (List ℕ)) → status ≡ NoMemory → IfSome o (λ (text : List ℕ). Tells text status told told)
+untold None status told is = tt
+untold (Some text) status told is = record { ends = λ read write memory. absurd (memory is); part = (0, (omega arith, unwritten told (screen text))) }
