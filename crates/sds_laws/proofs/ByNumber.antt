@@ -284,11 +284,11 @@ by_number s me other p (b ∷ batches) more acts at le meets =
     (by_number s me other (p + 1) batches more (after_batch one other.id 0 (p + 1) (sent_of one s b) acts)
     (ap (λ (l : List OutBatch). drop 1 l) at ∙ drop-drop 1 p (made s me.id 0)) step.further
     (record {
-        loads = received_loads other.id 0 (p + 1) (sent_of one s b) acts (p + 1 == loaded other.id 0 acts + 1) refl meets.loads;
-        lanes = step.goes.lanes;
-        rising = meets.rising;
-      })) where
-        drop_mapped : (k : ℕ) (batches : List OutBatch) → drop k (map (sent_of one s) batches) ≡ map (sent_of one s) (drop k batches)
-        drop_mapped zero batches = refl
-        drop_mapped (suc k) [] = refl
-        drop_mapped (suc k) (b ∷ batches) = drop_mapped k batches
+      loads = received_loads other.id 0 (p + 1) (sent_of one s b) acts (p + 1 == loaded other.id 0 acts + 1) refl meets.loads;
+      lanes = step.goes.lanes;
+      rising = meets.rising;
+    })) where
+      drop_mapped : (k : ℕ) (batches : List OutBatch) → drop k (map (sent_of one s) batches) ≡ map (sent_of one s) (drop k batches)
+      drop_mapped zero batches = refl
+      drop_mapped (suc k) [] = refl
+      drop_mapped (suc k) (b ∷ batches) = drop_mapped k batches

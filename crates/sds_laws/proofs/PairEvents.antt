@@ -135,10 +135,10 @@ pair_sent : (sender receiver : Peer) (mine acts : List Act) (messages : List Mes
     → Pair sender receiver mine acts (next_message sender receiver mine ∷ messages) replies
 pair_sent sender receiver mine acts messages replies pair = record {
   stands = record {
-      lanes = pair.stands.lanes;
-      lie = (message_kept one (at one sender (others receiver) mine) receiver.id sender.id acts refl pair.stands.lanes, pair.stands.lie);
-      name = pair.stands.name;
-    };
+    lanes = pair.stands.lanes;
+    lie = (message_kept one (at one sender (others receiver) mine) receiver.id sender.id acts refl pair.stands.lanes, pair.stands.lie);
+    name = pair.stands.name;
+  };
   writers = pair.writers;
   numbered = pair.numbered;
   first = pair.first;
@@ -242,17 +242,17 @@ next_pushed sender receiver mine acts messages replies count false is apart pair
     let further : Pair sender receiver mine (received_parts one sender.id (next_message sender receiver mine).parts acts) messages (reply_of sender receiver (next_message sender receiver mine) acts ∷ replies) =
     pair_delivered sender receiver mine acts messages replies pair in
     rw is (record {
-        mine = acks_acts (acks_answer (at one sender (others receiver) mine) receiver.id (acks_for_parts one sender.id (next_message sender receiver mine).parts acts)) receiver.id (acks_for_parts one sender.id (next_message sender receiver mine).parts acts) ++ mine;
-        acts = received_parts one sender.id (next_message sender receiver mine).parts acts;
-        messages = messages;
-        replies = reply_of sender receiver (next_message sender receiver mine) acts ∷ replies;
-        is = ap (λ (r : Reply). answered one r (delivered one (next_message sender receiver mine) (pair_world sender receiver mine acts messages replies))) (reply_is sender receiver mine acts messages replies apart)
-            ∙ (ap (λ (w : World). answered one (reply_of sender receiver (next_message sender receiver mine) acts) w) (world_delivered sender receiver mine acts messages replies apart)
-            ∙ world_answered sender receiver mine (received_parts one sender.id (next_message sender receiver mine).parts acts) messages (reply_of sender receiver (next_message sender receiver mine) acts ∷ replies)
-            (acks_for_parts one sender.id (next_message sender receiver mine).parts acts));
-        pair = pair_answered sender receiver mine (received_parts one sender.id (next_message sender receiver mine).parts acts) messages (reply_of sender receiver (next_message sender receiver mine) acts ∷ replies)
-            (acks_for_parts one sender.id (next_message sender receiver mine).parts acts) further.stands.name.0 further;
-      })
+      mine = acks_acts (acks_answer (at one sender (others receiver) mine) receiver.id (acks_for_parts one sender.id (next_message sender receiver mine).parts acts)) receiver.id (acks_for_parts one sender.id (next_message sender receiver mine).parts acts) ++ mine;
+      acts = received_parts one sender.id (next_message sender receiver mine).parts acts;
+      messages = messages;
+      replies = reply_of sender receiver (next_message sender receiver mine) acts ∷ replies;
+      is = ap (λ (r : Reply). answered one r (delivered one (next_message sender receiver mine) (pair_world sender receiver mine acts messages replies))) (reply_is sender receiver mine acts messages replies apart)
+          ∙ (ap (λ (w : World). answered one (reply_of sender receiver (next_message sender receiver mine) acts) w) (world_delivered sender receiver mine acts messages replies apart)
+          ∙ world_answered sender receiver mine (received_parts one sender.id (next_message sender receiver mine).parts acts) messages (reply_of sender receiver (next_message sender receiver mine) acts ∷ replies)
+          (acks_for_parts one sender.id (next_message sender receiver mine).parts acts));
+      pair = pair_answered sender receiver mine (received_parts one sender.id (next_message sender receiver mine).parts acts) messages (reply_of sender receiver (next_message sender receiver mine) acts ∷ replies)
+          (acks_for_parts one sender.id (next_message sender receiver mine).parts acts) further.stands.name.0 further;
+    })
 
 push_next : (sender receiver : Peer) (mine acts : List Act) (messages : List Message) (replies : List Reply) → bytes_eq sender.id receiver.id ≡ false
     → Pair sender receiver mine acts messages replies → Next sender receiver (happens one (pair_world sender receiver mine acts messages replies) (Push sender.id receiver.id))
@@ -270,23 +270,23 @@ next sender receiver apart mine acts messages replies pair (Register asks place)
 next sender receiver apart mine acts messages replies pair (Write node writer number rows) may =
     subst (λ (name : List ℕ). Next sender receiver (happens one (pair_world sender receiver mine acts messages replies) (Write name writer number rows))) (sym may.0)
     (record {
-        mine = write_acts (write_answer one (at one sender (others receiver) mine) writer number rows) writer number rows ++ mine;
-        acts = acts;
-        messages = messages;
-        replies = replies;
-        is = world_wrote sender receiver mine acts messages replies writer number rows;
-        pair = pair_wrote sender receiver mine acts messages replies writer number rows may.1 pair;
-      })
+      mine = write_acts (write_answer one (at one sender (others receiver) mine) writer number rows) writer number rows ++ mine;
+      acts = acts;
+      messages = messages;
+      replies = replies;
+      is = world_wrote sender receiver mine acts messages replies writer number rows;
+      pair = pair_wrote sender receiver mine acts messages replies writer number rows may.1 pair;
+    })
 next sender receiver apart mine acts messages replies pair (Route node) may =
     subst (λ (name : List ℕ). Next sender receiver (happens one (pair_world sender receiver mine acts messages replies) (Route name))) (sym may)
     (record {
-        mine = route_acts (route_answer one (at one sender (others receiver) mine)) (at one sender (others receiver) mine) ++ mine;
-        acts = acts;
-        messages = messages;
-        replies = replies;
-        is = world_routed sender receiver mine acts messages replies;
-        pair = pair_routed sender receiver mine acts messages replies pair;
-      })
+      mine = route_acts (route_answer one (at one sender (others receiver) mine)) (at one sender (others receiver) mine) ++ mine;
+      acts = acts;
+      messages = messages;
+      replies = replies;
+      is = world_routed sender receiver mine acts messages replies;
+      pair = pair_routed sender receiver mine acts messages replies pair;
+    })
 next sender receiver apart mine acts messages replies pair (Push from to) may =
     subst (λ (name : List ℕ). Next sender receiver (happens one (pair_world sender receiver mine acts messages replies) (Push name to))) (sym may.0)
     (subst (λ (name : List ℕ). Next sender receiver (happens one (pair_world sender receiver mine acts messages replies) (Push sender.id name))) (sym may.1)
@@ -473,10 +473,12 @@ pair_in_step sender receiver mine acts messages replies apart pair =
     } where
       nothing_made : (channel : ℕ) (name : List ℕ) → batches_of one (paired receiver sender) acts ≡ [] → made (state_of one (record { opening = paired receiver sender; acts = acts })) name channel ≡ []
       nothing_made channel name none = ap (λ (l : List OutBatch). filter (λ (b : OutBatch). bytes_eq b.peer name && b.channel == channel) l) none
+
       both_messages : (some : List Message) → Each (MessageKept one (at one sender (others receiver) mine) receiver.id sender.id acts) some → Each (MadeTo receiver) some
           → Each (MessageInStep one (pair_world sender receiver mine acts messages replies).nodes) some
       both_messages [] kept made_to = tt
       both_messages (m ∷ some) kept made_to = (message_in_step sender receiver mine acts messages replies apart m kept.0 made_to.0, both_messages some kept.1 made_to.1)
+
       both_replies : (some : List Reply) → Each (ReplyKept sender.id acts) some → Each (MadeBy sender receiver) some → Each (ReplyInStep (pair_world sender receiver mine acts messages replies).nodes) some
       both_replies [] kept made_by = tt
       both_replies (r ∷ some) kept made_by = (reply_in_step sender receiver mine acts messages replies apart r kept.0 made_by.0, both_replies some kept.1 made_by.1)

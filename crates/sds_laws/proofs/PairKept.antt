@@ -163,10 +163,10 @@ goes_by_calls sender receiver mine acts messages replies pair =
     by_number (at one sender (others receiver) mine) receiver sender (acked (at one sender (others receiver) mine) receiver.id 0) (next_batches 10000 (at one sender (others receiver) mine) receiver.id) front.0 acts front.1
     (lane_known one (at one sender (others receiver) mine) (made (at one sender (others receiver) mine) receiver.id 0) (taken_of sender.id 0 acts) (loaded sender.id 0 acts) (pair.stands.lanes 0))
     (record {
-        loads = pair.loads;
-        lanes = pair.stands.lanes;
-        rising = subst (λ (l : List OutBatch). Rising 0 (2 ^ 62) l) (sym made_all) (rising_up 0 (last_batch_of one (paired sender receiver) mine) (2 ^ 62) (batches_of one (paired sender receiver) mine) pair.numbered rising);
-      }) in
+      loads = pair.loads;
+      lanes = pair.stands.lanes;
+      rising = subst (λ (l : List OutBatch). Rising 0 (2 ^ 62) l) (sym made_all) (rising_up 0 (last_batch_of one (paired sender receiver) mine) (2 ^ 62) (batches_of one (paired sender receiver) mine) pair.numbered rising);
+    }) in
     record {
       known = is_known sender receiver mine;
       sents = map (sent_of one (at one sender (others receiver) mine)) (next_batches 10000 (at one sender (others receiver) mine) receiver.id);

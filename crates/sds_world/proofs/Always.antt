@@ -1,22 +1,22 @@
 -- After each event of a scenario its nodes are in step.
-use Rattle.std.proofs.Common.{◌≡◌, ℕ, ◌+◌, ◌<◌, ◌≤◌, zero, suc, Bool, true, false, ◌==◌, List, [], ◌∷◌, ◌++◌, length, map, take, All, Option, None, Some, refl, sym, ap, subst, ◌∙◌, arith}
-use Rattle.std.specs.Prelude.{if◌then◌else◌, IfSome}
+use Rattle.std.proofs.Common.{◌≡◌, ℕ, ◌+◌, zero, suc, Bool, true, false, ◌==◌, List, [], ◌∷◌, length, map, take, All, Option, None, Some, refl, sym, subst, arith}
+use Rattle.std.specs.Prelude.{IfSome}
 use Rattle.std.proofs.lemmas.List.Elements.{All-nil, All-cons}
 use Rattle.sds_value.specs.declared.row.Peer.{Peer}
 use Rattle.sds_spec.specs.declared.event.WorldEvent.{WorldEvent}
 use Rattle.sds_spec.specs.Acts.{History}
-use Rattle.sds_spec.specs.Happens.{happens, world_after}
+use Rattle.sds_spec.specs.Happens.{world_after}
 use Rattle.sds_spec.specs.InStep.{InStep, LaneInStep, WritersInOrder, EachFromNode, EachToPeer, RoutedOnce, MessageInStep, ReplyInStep}
 use Rattle.sds_spec.specs.History.{batches_of}
 use Rattle.sds_spec.specs.One.{one}
 use Rattle.sds_spec.specs.World.{World, empty_world}
 use Rattle.sds_world.specs.declared.line.Line.{Line}
 use Rattle.sds_world.specs.declared.place.Place.{Place}
-use Rattle.sds_world.specs.Looking.{start, completed, place_of}
+use Rattle.sds_world.specs.Looking.{completed, place_of}
 use Rattle.sds_world.specs.Played.{judged, is_long, most_bytes, without_last, world_by, world_of, last_in, settled_in, may_stand, onto_events, events_from, events_of}
 use Rattle.sds_world.specs.Playing.{beginning}
 use Rattle.sds_world.specs.Scenario.{line_of}
-use Rattle.sds_world.specs.Shapes.{one_node, two_nodes, Shaped}
+use Rattle.sds_world.specs.Shapes.{Shaped}
 use Rattle.sds_world.specs.Sound.{IsSoundLine}
 use Rattle.sds_world.specs.Splitting.{lines_of}
 use Rattle.sds_world.proofs.Shaping.{shaped_next, shaped_first}

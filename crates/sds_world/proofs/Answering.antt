@@ -1,7 +1,6 @@
 -- What a rehearsal is answered and writes, by what was read and played.
-use Rattle.std.proofs.Common.{◌≡◌, ◌≢◌, ◌⊎◌, inl, inr, ℕ, ◌+◌, ◌<◌, ◌≤◌, ◌^◌, Bool, true, false, List, [], ◌∷◌, ◌++◌, length, take, Option, None, Some, Result, Ok, Err, refl, sym, ap, subst, ◌∙◌, arith, append-nil, length-append}
+use Rattle.std.proofs.Common.{◌≡◌, ◌≢◌, ◌⊎◌, inl, inr, ℕ, ◌+◌, ◌<◌, ◌≤◌, ◌^◌, Bool, true, false, List, [], ◌++◌, length, take, Option, None, Some, Result, Err, refl, sym, ap, subst, ◌∙◌, arith, append-nil, length-append}
 use Rattle.std.specs.Prelude.{IfSome, nat_lt}
-use Rattle.std.specs.Option.{option_map}
 use Rattle.std.proofs.lemmas.Bool.Decides.{nat_tests}
 use Rattle.std.proofs.lemmas.List.{take-append-le}
 use Rattle.sds_outside.specs.Told.{before_told, after_told, IsAtEnd}
@@ -74,9 +73,9 @@ shows_by text front written is_over bad result old new is refused shown ends par
     let both : (bad ≡ refusal_of text) × (written ≡ screen text) = played_as text front written is_over bad is refused shown in
     record {
       ends = λ read write memory. (
-          (ends write).0 ∙ ap ending both.0,
-          (ends write).1 ∙ ap (λ (l : List ℕ). after_told old l) both.1,
-        );
+        (ends write).0 ∙ ap ending both.0,
+        (ends write).1 ∙ ap (λ (l : List ℕ). after_told old l) both.1,
+      );
       part = subst (λ (l : List ℕ). PartOf l old new) both.1 part;
     }
 

@@ -1,21 +1,18 @@
 -- The tables of each node of a scenario are a fold of its writes and of fronts of batches.
-use Rattle.std.proofs.Common.{◌≡◌, ℕ, ◌+◌, ◌<◌, ◌≤◌, zero, suc, Bool, true, false, ◌&&◌, ◌==◌, List, [], ◌∷◌, ◌++◌, length, map, take, get_or, All, Option, None, Some, refl, sym, ap, subst, ◌∙◌}
+use Rattle.std.proofs.Common.{◌≡◌, ℕ, Bool, true, false, ◌&&◌, ◌==◌, List, [], ◌∷◌, ◌++◌, get_or, All, refl, sym, ap, subst, ◌∙◌}
 use Rattle.std.specs.Prelude.{if◌then◌else◌}
 use Rattle.std.specs.Str.{bytes_eq}
 use Rattle.std.proofs.lemmas.List.Elements.{All-nil, All-cons}
-use Rattle.sds_value.specs.declared.row.Peer.{Peer}
-use Rattle.sds_spec.specs.declared.event.WorldEvent.{WorldEvent}
 use Rattle.sds_spec.specs.declared.row.LoadRow.{LoadRow}
 use Rattle.sds_spec.specs.declared.row.TableRow.{TableRow}
 use Rattle.sds_spec.specs.declared.row.TxRow.{TxRow}
 use Rattle.sds_spec.specs.Acts.{Act, State, History}
 use Rattle.sds_spec.specs.Acts.Act.{Wrote, Routed, Loaded, Acked}
-use Rattle.sds_spec.specs.Happens.{world_after}
-use Rattle.sds_spec.specs.History.{state_of, tables_of}
-use Rattle.sds_spec.specs.InStep.{InStep, LaneInStep, Taken, taken_of}
+use Rattle.sds_spec.specs.History.{tables_of}
+use Rattle.sds_spec.specs.InStep.{InStep, Taken, taken_of}
 use Rattle.sds_spec.specs.One.{one, paired}
-use Rattle.sds_spec.specs.World.{World, empty_world}
-use Rattle.sds_laws.specs.Pairs.{pair_world, PairFacts}
+use Rattle.sds_spec.specs.World.{World}
+use Rattle.sds_laws.specs.Pairs.{PairFacts}
 use Rattle.sds_world.specs.declared.place.Place.{Place}
 use Rattle.sds_world.specs.Looking.{corp, s1}
 use Rattle.sds_world.specs.Playing.{beginning}
@@ -79,11 +76,11 @@ all_folded : (place : Place) (w : World) (count : ℕ) → Shaped place w count 
 all_folded place w count shaped =
     by_four (AllFolded w) place.openings (place.openings == 4) refl shaped.most
     (λ lt. early AllFolded place w count shaped lt (All-nil AreFolded) (All-cons AreFolded (beginning corp) [] refl (All-nil AreFolded))
-        (All-cons AreFolded (beginning corp) (beginning s1 ∷ []) refl (All-cons AreFolded (beginning s1) [] refl (All-nil AreFolded))))
+    (All-cons AreFolded (beginning corp) (beginning s1 ∷ []) refl (All-cons AreFolded (beginning s1) [] refl (All-nil AreFolded))))
     (λ is. (let facts : PairFacts corp s1 w = pair_facts w (shaped.met is) in
-        subst AllFolded (sym facts.is) (All-cons AreFolded (record { opening = paired corp s1; acts = facts.mine }) (record { opening = paired s1 corp; acts = facts.acts } ∷ [])
-        (are_folded (paired corp s1) facts.mine refl)
-        (All-cons AreFolded (record { opening = paired s1 corp; acts = facts.acts }) [] (are_folded (paired s1 corp) facts.acts refl) (All-nil AreFolded)))))
+    subst AllFolded (sym facts.is) (All-cons AreFolded (record { opening = paired corp s1; acts = facts.mine }) (record { opening = paired s1 corp; acts = facts.acts } ∷ [])
+    (are_folded (paired corp s1) facts.mine refl)
+    (All-cons AreFolded (record { opening = paired s1 corp; acts = facts.acts }) [] (are_folded (paired s1 corp) facts.acts refl) (All-nil AreFolded)))))
 
 lanes_front : (w : World) → InStep one w → All (λ (sender : History). All (AreFront sender) w.nodes) w.nodes
 lanes_front w is = λ k d inside j e within.

@@ -1,5 +1,5 @@
 -- The front of a text that is looked at.
-use Rattle.std.proofs.Common.{◌≡◌, ℕ, ◌+◌, ◌<◌, ◌≤◌, ◌^◌, List, ◌++◌, length, take, sym, arith}
+use Rattle.std.proofs.Common.{◌≡◌, ℕ, ◌+◌, ◌≤◌, ◌^◌, List, length, take, sym, arith}
 use Rattle.std.proofs.lemmas.List.{take_all}
 use Rattle.sds_world.specs.Played.{most_bytes}
 

@@ -1,6 +1,5 @@
 -- The loads of a message at a node, one after another.
-use Rattle.std.proofs.Common.{◌≡◌, ℕ, ◌+◌, ◌<◌, ◌≤◌, suc, None, refl, Bool, true, false, append-nil, List, [], ◌∷◌, ◌++◌, All, drop, length, get_or, sym, ap, subst, ◌∙◌, append_assoc, add-one}
-use Rattle.std.specs.Prelude.{if◌then◌else◌}
+use Rattle.std.proofs.Common.{◌≡◌, ℕ, ◌+◌, ◌<◌, ◌≤◌, None, refl, Bool, true, false, append-nil, List, [], ◌∷◌, ◌++◌, All, drop, length, get_or, sym, ap, subst, ◌∙◌, append_assoc}
 use Rattle.std.proofs.lemmas.List.{drop_more, drop_all}
 use Rattle.sds_value.specs.declared.row.DocRow.{DocRow}
 use Rattle.sds_spec.specs.declared.answer.Ack.{Ack}

@@ -1,11 +1,11 @@
 -- Two nodes meet: each becomes the other's one peer.
-use Rattle.std.proofs.Common.{◌≡◌, ◌≢◌, ℕ, Bool, true, false, List, [], ◌∷◌, ◌++◌, length, map, Option, None, Some, refl, sym, ap, subst, ◌∙◌}
-use Rattle.std.specs.Prelude.{if◌then◌else◌, IfSome}
+use Rattle.std.proofs.Common.{◌≡◌, ◌≢◌, ℕ, true, false, List, [], ◌∷◌, ◌++◌, map, Option, None, Some, refl, sym, ap, subst, ◌∙◌}
+use Rattle.std.specs.Prelude.{IfSome}
 use Rattle.std.specs.Str.{bytes_eq}
 use Rattle.std.proofs.lemmas.Slice.Eq.{bytes_eq-Decides}
 use Rattle.sds_value.specs.declared.row.Peer.{Peer}
 use Rattle.sds_spec.specs.declared.event.WorldEvent.TheVariants as event
-use Rattle.sds_spec.specs.Acts.{Act, History}
+use Rattle.sds_spec.specs.Acts.{History}
 use Rattle.sds_spec.specs.Happens.{registered, happens}
 use Rattle.sds_spec.specs.One.{one, paired}
 use Rattle.sds_spec.specs.World.{World, history_of}

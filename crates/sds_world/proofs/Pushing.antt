@@ -1,27 +1,24 @@
 -- A push: a message is sent, and where it holds a batch delivered and answered.
-use Rattle.std.proofs.Common.{◌≡◌, ℕ, ◌+◌, ◌<◌, ◌^◌, suc, Bool, true, false, ◌==◌, List, [], ◌∷◌, ◌++◌, length, map, All, Option, None, Some, Result, Ok, Err, refl, sym, ap, subst, ◌∙◌, arith, append_assoc, append-nil, add-one}
-use Rattle.std.specs.Prelude.{if◌then◌else◌}
+use Rattle.std.proofs.Common.{◌≡◌, ℕ, ◌+◌, ◌<◌, ◌^◌, suc, Bool, true, false, ◌==◌, List, [], ◌∷◌, ◌++◌, length, map, Option, Some, Ok, refl, sym, ap, subst, ◌∙◌, arith, append_assoc, append-nil, add-one}
 use Rattle.std.specs.Option.{option_map_or}
 use Rattle.std.specs.List.{flat_map}
 use Rattle.std.specs.Str.{bytes_eq}
 use Rattle.std.proofs.lemmas.Bool.Decides.{nat_tests}
-use Rattle.sds_value.specs.declared.row.DocRow.{DocRow}
 use Rattle.sds_value.specs.declared.row.Peer.{Peer}
 use Rattle.sds_spec.specs.declared.answer.Ack.{Ack}
-use Rattle.sds_spec.specs.declared.answer.PeerRefusal.{PeerRefusal}
 use Rattle.sds_spec.specs.declared.batch.OutBatch.{OutBatch}
 use Rattle.sds_spec.specs.declared.batch.Sent.{Sent}
 use Rattle.sds_spec.specs.declared.event.WorldEvent.TheVariants as event
 use Rattle.sds_spec.specs.Acts.{Act, State, History}
 use Rattle.sds_spec.specs.Calls.{is_peer, offer_answer, acks_answer}
-use Rattle.sds_spec.specs.Happens.{batches_in, happens, sent, message_from, delivered, answered, reply_to, pushed_by}
+use Rattle.sds_spec.specs.Happens.{batches_in, happens, sent, message_from, delivered, answered, reply_to}
 use Rattle.sds_spec.specs.History.{state_of}
 use Rattle.sds_spec.specs.Lanes.{offered_in, channels_of}
 use Rattle.sds_spec.specs.One.{one, paired}
 use Rattle.sds_spec.specs.Screen.{printed_by, send_line, deliver_line, answer_line}
 use Rattle.sds_spec.specs.World.{Message, Reply, World, history_of}
 use Rattle.sds_laws.specs.Loads.{sent_at}
-use Rattle.sds_laws.specs.Pairs.{pair_world, GoesByCalls, PairFacts}
+use Rattle.sds_laws.specs.Pairs.{pair_world, GoesByCalls}
 use Rattle.sds_laws.proofs.PairEvents.{next_message, reply_of, message_is, world_delivered, sender_found, receiver_found}
 use Rattle.sds_world.specs.declared.stage.Stage.{Stage}
 use Rattle.sds_world.specs.Playing.{Stands, MayPush, TakesAs}
@@ -162,5 +159,6 @@ pushed_all from to s0 s1 s2 s3 o0 o1 o2 o3 sents acks send some receive answer w
     ) where
       three : (a b c d : List ℕ) → ((a ++ b) ++ c) ++ d ≡ a ++ (b ++ (c ++ d))
       three a b c d = append_assoc (a ++ b) c d ∙ append_assoc a b (c ++ d)
+
       both : {a b c d : List ℕ} → a ≡ b → c ≡ d → a ++ c ≡ b ++ d
       both {a = a} {d = d} first second = ap (λ (l : List ℕ). a ++ l) second ∙ ap (λ (l : List ℕ). l ++ d) first

@@ -1,8 +1,7 @@
 -- A line that may stand keeps the shape of place and world.
-use Rattle.std.proofs.Common.{◌≡◌, ℕ, ◌+◌, ◌<◌, ◌≤◌, suc, Bool, true, false, ◌&&◌, ◌==◌, List, [], ◌∷◌, ◌++◌, length, map, All, Option, None, Some, refl, sym, ap, subst, ◌∙◌, arith, codes}
-use Rattle.std.specs.Prelude.{if◌then◌else◌, IfSome, is_some, is_none, nat_lt}
+use Rattle.std.proofs.Common.{◌≡◌, ℕ, ◌+◌, ◌≤◌, suc, Bool, true, false, ◌&&◌, ◌==◌, List, [], ◌∷◌, ◌++◌, length, All, Option, None, Some, refl, sym, ap, subst, ◌∙◌, arith}
+use Rattle.std.specs.Prelude.{IfSome, is_some, is_none}
 use Rattle.std.specs.Option.{option_map}
-use Rattle.std.specs.Str.{bytes_eq}
 use Rattle.std.proofs.lemmas.Bool.{eqb-true}
 use Rattle.std.proofs.lemmas.List.Elements.{All-nil, All-cons, All-append}
 use Rattle.sds_config.specs.declared.config.Config.{Config}
@@ -121,60 +120,60 @@ first_world : (place : Place) (w : World) (count : ℕ) → Shaped place w count
 first_world place w count shaped at none =
     let is : happens one w (event.Node corp) ≡ one_node = ap (λ (x : World). happens one x (event.Node corp)) (shaped.at_first at) in
     subst (λ (x : World). Shaped (record place { openings = place.openings + 1 }) x (suc count)) (sym is) (record {
-        most = omega (arith, at);
-        at_first = λ e. absurd (omega (arith, e, at));
-        at_second = λ e. refl;
-        at_third = λ e. absurd (omega (arith, e, at));
-        at_fourth = λ e. absurd (omega (arith, e, at));
-        met = λ e. absurd (omega (arith, e, at));
-        open_write = no_open (place.openings + 1) place.draft none;
-        few_messages = omega arith;
-        few_replies = omega arith;
-      })
+      most = omega (arith, at);
+      at_first = λ e. absurd (omega (arith, e, at));
+      at_second = λ e. refl;
+      at_third = λ e. absurd (omega (arith, e, at));
+      at_fourth = λ e. absurd (omega (arith, e, at));
+      met = λ e. absurd (omega (arith, e, at));
+      open_write = no_open (place.openings + 1) place.draft none;
+      few_messages = omega arith;
+      few_replies = omega arith;
+    })
 
 second_world : (place : Place) (w : World) (count : ℕ) → Shaped place w count → place.openings ≡ 1 → place.draft ≡ None → Shaped (record place { openings = place.openings + 1 }) (happens one w (event.Node s1)) (suc count)
 second_world place w count shaped at none =
     let is : happens one w (event.Node s1) ≡ two_nodes = ap (λ (x : World). happens one x (event.Node s1)) (shaped.at_second at) in
     subst (λ (x : World). Shaped (record place { openings = place.openings + 1 }) x (suc count)) (sym is) (record {
-        most = omega (arith, at);
-        at_first = λ e. absurd (omega (arith, e, at));
-        at_second = λ e. absurd (omega (arith, e, at));
-        at_third = λ e. refl;
-        at_fourth = λ e. absurd (omega (arith, e, at));
-        met = λ e. absurd (omega (arith, e, at));
-        open_write = no_open (place.openings + 1) place.draft none;
-        few_messages = omega arith;
-        few_replies = omega arith;
-      })
+      most = omega (arith, at);
+      at_first = λ e. absurd (omega (arith, e, at));
+      at_second = λ e. absurd (omega (arith, e, at));
+      at_third = λ e. refl;
+      at_fourth = λ e. absurd (omega (arith, e, at));
+      met = λ e. absurd (omega (arith, e, at));
+      open_write = no_open (place.openings + 1) place.draft none;
+      few_messages = omega arith;
+      few_replies = omega arith;
+    })
 
 third_world : (place : Place) (w : World) (count : ℕ) → Shaped place w count → place.openings ≡ 2 → place.draft ≡ None → Shaped (record place { openings = place.openings + 1 }) (happens one w (event.Open corp.id s1.group s1.external)) (suc count)
 third_world place w count shaped at none =
     subst (λ (x : World). Shaped (record place { openings = place.openings + 1 }) x (suc count)) (sym (shaped.at_third at)) (record {
-        most = omega (arith, at);
-        at_first = λ e. absurd (omega (arith, e, at));
-        at_second = λ e. absurd (omega (arith, e, at));
-        at_third = λ e. absurd (omega (arith, e, at));
-        at_fourth = λ e. refl;
-        met = λ e. absurd (omega (arith, e, at));
-        open_write = no_open (place.openings + 1) place.draft none;
-        few_messages = omega arith;
-        few_replies = omega arith;
-      })
+      most = omega (arith, at);
+      at_first = λ e. absurd (omega (arith, e, at));
+      at_second = λ e. absurd (omega (arith, e, at));
+      at_third = λ e. absurd (omega (arith, e, at));
+      at_fourth = λ e. refl;
+      met = λ e. absurd (omega (arith, e, at));
+      open_write = no_open (place.openings + 1) place.draft none;
+      few_messages = omega arith;
+      few_replies = omega arith;
+    })
 
 fourth_world : (place : Place) (w : World) (count : ℕ) → Shaped place w count → place.openings ≡ 3 → place.draft ≡ None → Shaped (record place { openings = place.openings + 1 }) (happens one w (event.Register s1.id corp.id)) (suc count)
 fourth_world place w count shaped at none =
     let is : happens one w (event.Register s1.id corp.id) ≡ pair_world corp s1 [] [] [] [] = ap (λ (x : World). happens one x (event.Register s1.id corp.id)) (shaped.at_fourth at) in
     subst (λ (x : World). Shaped (record place { openings = place.openings + 1 }) x (suc count)) (sym is) (record {
-        most = omega (arith, at);
-        at_first = λ e. absurd (omega (arith, e, at));
-        at_second = λ e. absurd (omega (arith, e, at));
-        at_third = λ e. absurd (omega (arith, e, at));
-        at_fourth = λ e. absurd (omega (arith, e, at));
-        met = λ e. record { events = []; may = All-nil May; is = refl };
-        open_write = no_open (place.openings + 1) place.draft none;
-        few_messages = omega arith;
-        few_replies = omega arith;
-      })
+      most = omega (arith, at);
+      at_first = λ e. absurd (omega (arith, e, at));
+      at_second = λ e. absurd (omega (arith, e, at));
+      at_third = λ e. absurd (omega (arith, e, at));
+      at_fourth = λ e. absurd (omega (arith, e, at));
+      met = λ e. record { events = []; may = All-nil May; is = refl };
+      open_write = no_open (place.openings + 1) place.draft none;
+      few_messages = omega arith;
+      few_replies = omega arith;
+    })
 
 pub ready : (place : Place) → (place.openings == 4 && is_none place.draft) ≡ true → (place.openings ≡ 4) × (place.draft ≡ None)
 ready place is = (eqb-true place.openings 4 (and_left (place.openings == 4) (is_none place.draft) is), none_draft place.draft (and_right (place.openings == 4) (is_none place.draft) is))

@@ -113,7 +113,7 @@ pub line-sound : (bytes : List ℕ) → IsSoundLine (line_of bytes)
 line-sound bytes =
     by_tests (is_readable bytes) (is_skipped bytes) (has_quote bytes) (said_by (fields_of bytes))
     (λ is. (let utf8 : AreUtf8 (fields_of bytes) = fields_utf8 bytes (IsUtf8-from_is_utf8 bytes (right_of (nat_le (length bytes) 1048576) (is_utf8 bytes) is)) in
-        or_other _ (first_of _ _ (opening-sound (fields_of bytes)) (first_of _ _ (given-sound (fields_of bytes) utf8) (step-sound (fields_of bytes))))))
+    or_other _ (first_of _ _ (opening-sound (fields_of bytes)) (first_of _ _ (given-sound (fields_of bytes) utf8) (step-sound (fields_of bytes))))))
 
 abbrev IsPair : TxRow → Type 0
 IsPair row = is_own_insert one row ≡ true

@@ -1,32 +1,27 @@
 -- What the calls of a stage's nodes make of the world for which the stage stands.
-use Rattle.std.proofs.Common.{◌≡◌, ℕ, ◌+◌, ◌-◌, ◌*◌, ◌^◌, ◌<◌, ◌≤◌, Bool, true, false, ◌==◌, List, [], ◌∷◌, ◌++◌, length, map, min, All, Option, None, Some, Result, Ok, Err, refl, sym, ap, subst, ◌∙◌, arith, append_assoc}
-use Rattle.std.specs.Prelude.{if◌then◌else◌, IfSome}
+use Rattle.std.proofs.Common.{◌≡◌, ℕ, ◌+◌, ◌^◌, ◌<◌, true, List, [], ◌∷◌, ◌++◌, length, map, All, Option, Some, Result, Ok, sym, ap, subst, ◌∙◌, arith}
 use Rattle.std.specs.Option.{option_map_or}
-use Rattle.std.specs.Str.{bytes_eq}
 use Rattle.sds_value.specs.declared.row.DocRow.{DocRow}
-use Rattle.sds_value.specs.declared.row.Peer.{Peer}
 use Rattle.sds_spec.specs.declared.answer.Ack.{Ack}
 use Rattle.sds_spec.specs.declared.answer.AckRefusal.{AckRefusal}
 use Rattle.sds_spec.specs.declared.answer.NodeFault.{NodeFault}
 use Rattle.sds_spec.specs.declared.answer.WriteRefusal.{WriteRefusal}
 use Rattle.sds_spec.specs.declared.answer.Written.{Written}
 use Rattle.sds_spec.specs.declared.batch.Sent.{Sent}
-use Rattle.sds_spec.specs.declared.event.WorldEvent.{WorldEvent}
 use Rattle.sds_spec.specs.declared.event.WorldEvent.TheVariants as event
 use Rattle.sds_spec.specs.declared.row.TxRow.{TxRow}
 use Rattle.sds_spec.specs.Acts.{Act, History}
 use Rattle.sds_spec.specs.Calls.{write_answer, write_acts, route_answer, route_acts, acks_answer, acks_acts, offer_answer}
 use Rattle.sds_spec.specs.Happens.{acts_at, write_at, route_at, acks_at, happens, with_history_acts, answered, delivered, reply_to, sent, message_from, acts_of}
 use Rattle.sds_spec.specs.History.{state_of}
-use Rattle.sds_spec.specs.One.{one, paired}
+use Rattle.sds_spec.specs.One.{one}
 use Rattle.sds_spec.specs.Outcome.{is_whole_insert}
 use Rattle.sds_spec.specs.Screen.{printed_by, write_line, route_line, send_line, deliver_line, answer_line}
 use Rattle.sds_spec.specs.Shown.{tables_text}
 use Rattle.sds_spec.specs.World.{Message, Reply, World, history_of, with_acts, received_parts, acks_for_parts}
 use Rattle.sds_laws.specs.Loads.{after_loads, loads_acks, sent_at}
-use Rattle.sds_node.specs.Meaning.{StandsFor, kept_of}
 use Rattle.sds_world.specs.declared.nodes.Named.{Named}
-use Rattle.sds_world.specs.Playing.{NodePlays, NodesPlay, HistoryAt, IsPlaced, IsNowhere, TakesAs}
+use Rattle.sds_world.specs.Playing.{NodesPlay, HistoryAt, IsPlaced, IsNowhere, TakesAs}
 use Rattle.sds_world.proofs.Lookups.{acts_put, one_history}
 
 -- the history at a place, seen through a slice of the nodes

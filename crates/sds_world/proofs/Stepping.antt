@@ -1,7 +1,7 @@
 -- One line of a scenario, played by a stage.
-use Rattle.std.proofs.Common.{◌≡◌, ◌⊎◌, inl, inr, ℕ, ◌+◌, ◌<◌, ◌≤◌, ◌^◌, zero, suc, Bool, true, false, ◌&&◌, ◌==◌, List, [], ◌∷◌, ◌++◌, length, Option, None, Some, refl, sym, ap, subst, ◌∙◌, arith, append-nil}
+use Rattle.std.proofs.Common.{◌≡◌, ◌⊎◌, inl, inr, ℕ, ◌<◌, ◌≤◌, ◌^◌, zero, suc, Bool, true, false, ◌&&◌, ◌==◌, List, [], ◌∷◌, ◌++◌, length, Option, None, Some, refl, sym, ap, subst, ◌∙◌, arith, append-nil}
 use Rattle.sds_spec.specs.declared.row.TxRow.{TxRow}
-use Rattle.std.specs.Prelude.{if◌then◌else◌, All, IfSome, is_some, is_none}
+use Rattle.std.specs.Prelude.{All, IfSome, is_none}
 use Rattle.std.specs.Option.{option_map, option_map_or}
 use Rattle.std.proofs.lemmas.Bool.{eqb-true}
 use Rattle.std.proofs.lemmas.Bool.Decides.{nat_tests}
@@ -14,8 +14,8 @@ use Rattle.sds_spec.specs.Kept.{writer_in}
 use Rattle.sds_spec.specs.One.{one, paired}
 use Rattle.sds_spec.specs.Screen.{printed_by}
 use Rattle.sds_spec.specs.Settled.{kept_number, all_ok}
-use Rattle.sds_spec.specs.World.{World, empty_world, history_of}
-use Rattle.sds_laws.specs.Pairs.{pair_world, IsPairWorld, PairFacts, is_written_row}
+use Rattle.sds_spec.specs.World.{World, empty_world}
+use Rattle.sds_laws.specs.Pairs.{IsPairWorld, PairFacts, is_written_row}
 use Rattle.sds_laws.proofs.PairEvents.{stay_in_step, sender_found, receiver_found}
 use Rattle.sds_world.specs.declared.line.Line.{Line}
 use Rattle.sds_world.specs.declared.line.Line.TheVariants.{Skip, Opening, Write, Row, End, Route, Push, Show, Other}
@@ -26,7 +26,7 @@ use Rattle.sds_world.specs.declared.place.Place.{Place}
 use Rattle.sds_world.specs.declared.stage.Stage.{Stage}
 use Rattle.sds_world.specs.Looking.{fits, behind, completed, written, corp, s1, place_of}
 use Rattle.sds_world.specs.Played.{world_by, world_of, last_of, last_in, settled_in, may_stand}
-use Rattle.sds_world.specs.Playing.{NodesPlay, Waits, Stands, AreToMeet, IsThere, MayPush, MayPlay, HasPlayed}
+use Rattle.sds_world.specs.Playing.{NodesPlay, Waits, Stands, IsThere, MayPlay, HasPlayed}
 use Rattle.sds_world.specs.Settling.{last_by, settled_by, last_said}
 use Rattle.sds_world.specs.Shapes.{one_node, two_nodes, Shaped, PlaysAt, Behind, printed_line}
 use Rattle.sds_world.specs.Sound.{IsSoundLine}
@@ -153,9 +153,10 @@ may_play older place stage (Opening Open) last settled e b sound few fit is =
 may_play older place stage (Opening Register) last settled e b sound few fit is =
     let here : place.openings ≡ 3 = (at_order place 3 fit).0 in
     let same : event.Register s1.id corp.id ≡ e = cc in
-    subst (λ (x : WorldEvent). MayPlay x stage (world_of older)) same
-    (b.plays.waits (omega (arith, here)),
-        record { parent = corp; child = s1; nodes = ap (λ (w : World). w.nodes) (b.shaped.at_fourth here); is_parent = refl; is_child = refl; apart = refl })
+    subst (λ (x : WorldEvent). MayPlay x stage (world_of older)) same (
+      b.plays.waits (omega (arith, here)),
+      record { parent = corp; child = s1; nodes = ap (λ (w : World). w.nodes) (b.shaped.at_fourth here); is_parent = refl; is_child = refl; apart = refl },
+    )
 may_play older place stage (Write writer number) last settled e b sound few fit is = no_event (MayPlay e stage (world_of older)) e is
 may_play older place stage (Row row) last settled e b sound few fit is = no_event (MayPlay e stage (world_of older)) e is
 may_play older place stage End last settled e b sound few fit is = may_write older place stage place.draft e b b.shaped.open_write is
@@ -167,18 +168,19 @@ may_play older place stage Push last settled e b sound few fit is =
     let messages : length (world_of older).messages ≤ length older = b.shaped.few_messages in
     let replies : length (world_of older).replies ≤ length older = b.shaped.few_replies in
     let same : event.Push corp.id s1.id ≡ e = cc in
-    subst (λ (x : WorldEvent). MayPlay x stage (world_of older)) same
-    (m.stands,
-        record {
-          sender = corp;
-          receiver = s1;
-          is_sender = refl;
-          is_receiver = refl;
-          apart = refl;
-          facts = m.facts;
-          few_messages = omega (arith, messages, few);
-          few_replies = omega (arith, replies, few);
-        })
+    subst (λ (x : WorldEvent). MayPlay x stage (world_of older)) same (
+      m.stands,
+      record {
+        sender = corp;
+        receiver = s1;
+        is_sender = refl;
+        is_receiver = refl;
+        apart = refl;
+        facts = m.facts;
+        few_messages = omega (arith, messages, few);
+        few_replies = omega (arith, replies, few);
+      },
+    )
 may_play older place stage (Show node) last settled e b sound few fit is =
     let m : Met older place stage = met_at older place stage b (ready place fit).0 in
     let same : event.Show node ≡ e = cc in subst (λ (x : WorldEvent). MayPlay x stage (world_of older)) same (m.stands, shown_there (world_of older) node m.facts sound)

@@ -1,5 +1,5 @@
 -- The lines of a scenario, one after another.
-use Rattle.std.proofs.Common.{◌≡◌, ◌==◌, ℕ, ◌+◌, ◌<◌, ◌≤◌, ◌^◌, suc, Bool, true, false, List, [], ◌∷◌, ◌++◌, length, map, Option, None, Some, refl, sym, ap, subst, ◌∙◌, arith, append-nil, append_assoc, add-one}
+use Rattle.std.proofs.Common.{◌≡◌, ◌==◌, ℕ, ◌+◌, ◌<◌, ◌^◌, Bool, true, false, List, [], ◌∷◌, ◌++◌, length, map, Option, None, Some, refl, sym, ap, subst, ◌∙◌, arith, append-nil, append_assoc, add-one}
 use Rattle.std.specs.Prelude.{if◌then◌else◌, is_some}
 use Rattle.std.specs.List.{position}
 use Rattle.std.specs.Option.{option_map_or}
@@ -13,9 +13,8 @@ use Rattle.sds_world.specs.declared.rehearsal.BadLine.{BadLine}
 use Rattle.sds_world.specs.declared.stage.Stage.{Stage}
 use Rattle.sds_world.specs.Looking.{start, completed, place_of}
 use Rattle.sds_world.specs.Played.{without_last, judged, world_by, world_of, may_stand, onto_events, events_from, end_refusal, refusal_from}
-use Rattle.sds_world.specs.Playing.{Waits}
 use Rattle.sds_world.specs.Scenario.{line_of}
-use Rattle.sds_world.specs.Shapes.{Shaped, PlaysAt, Behind, printed_line}
+use Rattle.sds_world.specs.Shapes.{Shaped, Behind, printed_line}
 use Rattle.sds_world.specs.Splitting.{lines_of}
 use Rattle.sds_world.proofs.Cuts.{cut_lines, uncut}
 use Rattle.sds_world.proofs.Shaping.{shaped_first}
@@ -56,13 +55,13 @@ at_start is_over text screen place stage is nodes peers messages replies none =
     record {
       older = [];
       behind = record {
-          is = is;
-          shaped = subst (λ (p : Place). Shaped p empty_world 0) (sym is) shaped_first;
-          plays = record {
-              waits = λ lt. record { none = nodes; peers = peers; messages = messages; replies = replies };
-              stands = λ four. absurd (omega (arith, four, openings));
-            };
+        is = is;
+        shaped = subst (λ (p : Place). Shaped p empty_world 0) (sym is) shaped_first;
+        plays = record {
+          waits = λ lt. record { none = nodes; peers = peers; messages = messages; replies = replies };
+          stands = λ four. absurd (omega (arith, four, openings));
         };
+      };
       shown = ap (λ (l : List ℕ). l ++ screen_of one empty_world (events_from [] (judged is_over text))) none;
       refused = refl;
       counted = refl;

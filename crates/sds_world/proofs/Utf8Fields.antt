@@ -1,13 +1,12 @@
 -- The fields of a line in UTF-8 are in UTF-8.
-use Rattle.std.proofs.Common.{◌≡◌, ℕ, ◌+◌, ◌-◌, ◌<◌, ◌≤◌, zero, suc, Bool, true, false, ◌==◌, nat_lt, List, [], ◌∷◌, length, map, take, drop, get_or, refl, sym, ap, subst, ◌∙◌, arith, length-drop}
+use Rattle.std.proofs.Common.{◌≡◌, ℕ, ◌+◌, ◌-◌, ◌<◌, ◌≤◌, zero, suc, Bool, true, false, ◌==◌, nat_lt, List, [], ◌∷◌, length, map, drop, get_or, refl, sym, subst, arith, length-drop}
 use Rattle.std.proofs.lemmas.Bool.Decides.{nat_tests}
-use Rattle.std.proofs.lemmas.Bool.{eqb-true}
 use Rattle.std.proofs.lemmas.List.Splits.{slice_split_first, slice_split_none}
 use Rattle.std.proofs.lemmas.List.Sums.{fails_before_first, passes_at_first}
 use Rattle.std.proofs.lemmas.Str.{IsUtf8-nil, IsUtf8-take, IsUtf8-drop, IsCharBoundary-start, IsCharBoundary-before_ascii, IsCharBoundary-after_ascii}
 use Rattle.std.specs.List.{slice_split, position_or_len, prefix_len, suffix_len, All}
 use Rattle.std.specs.Str.{IsUtf8, IsCharBoundary}
-use Rattle.sds_world.specs.Splitting.{is_spacing, without_front, without_end, trimmed, fields_of}
+use Rattle.sds_world.specs.Splitting.{is_spacing, without_front, trimmed, fields_of}
 use Rattle.sds_world.proofs.Spacing.{front_boundary, end_boundary}
 
 abbrev pub AreUtf8 : List (List ℕ) → Type 0

@@ -1,6 +1,6 @@
 -- What holds of every scenario, in the trade's words: each routed change stands in exactly the batches that its routers named, and every node's tables are
 -- what its accepted writes and a front of each sender's batches leave, each once, in the order of the node's commits.
-use Rattle.std.specs.Prelude.{◌≡◌, ℕ, ◌&&◌, ◌==◌, Bool, if◌then◌else◌, List, [], ◌∷◌, ◌++◌, map, take, All}
+use Rattle.std.specs.Prelude.{◌≡◌, ℕ, ◌&&◌, ◌==◌, if◌then◌else◌, List, [], ◌∷◌, ◌++◌, map, take, All}
 use Rattle.std.specs.Str.{bytes_eq}
 use Rattle.sds_spec.specs.declared.row.LoadRow.{LoadRow}
 use Rattle.sds_spec.specs.declared.row.TableRow.{TableRow}

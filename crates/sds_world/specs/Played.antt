@@ -1,6 +1,6 @@
 -- What a scenario's text makes happen and prints, and the first line that it may not have.
 -- A line is judged by the lines before it, the newest first, and by the world that these have made.
-use Rattle.std.specs.Prelude.{◌≡◌, ◌≢◌, ℕ, ◌+◌, ◌≤◌, ◌^◌, Bool, true, nat_lt, is_some, if◌then◌else◌, List, [], ◌∷◌, ◌++◌, length, map, take, Option, None, Some, Result, Ok, Err}
+use Rattle.std.specs.Prelude.{◌≡◌, ◌≢◌, ℕ, ◌+◌, ◌≤◌, ◌^◌, Bool, true, nat_lt, is_some, if◌then◌else◌, List, [], ◌∷◌, length, map, take, Option, None, Some, Result, Ok, Err}
 use Rattle.std.specs.Option.{option_map_or}
 use Rattle.sds_outside.specs.Told.{after_told}
 use Rattle.sds_spec.specs.declared.event.WorldEvent.{WorldEvent}
@@ -9,12 +9,11 @@ use Rattle.sds_spec.specs.Happens.{happens}
 use Rattle.sds_spec.specs.History.{state_of}
 use Rattle.sds_spec.specs.Kept.{writer_in}
 use Rattle.sds_spec.specs.One.{one}
-use Rattle.sds_spec.specs.Screen.{printed_by, screen_of}
+use Rattle.sds_spec.specs.Screen.{screen_of}
 use Rattle.sds_spec.specs.Settled.{kept_number, all_ok}
 use Rattle.sds_spec.specs.World.{World, empty_world, history_of}
 use Rattle.sds_world.specs.declared.line.Line.{Line}
-use Rattle.sds_world.specs.declared.line.Line.TheVariants.{Skip, Opening, Write, Row, End, Route, Push, Show, Other}
-use Rattle.sds_world.specs.declared.place.Place.{Place}
+use Rattle.sds_world.specs.declared.line.Line.TheVariants.{Write}
 use Rattle.sds_world.specs.declared.rehearsal.BadLine.{BadLine}
 use Rattle.sds_world.specs.declared.rehearsal.WorldRefusal.{WorldRefusal}
 use Rattle.sds_world.specs.declared.rehearsal.WorldRefusal.TheVariants as world_refusal

@@ -4,7 +4,7 @@ use Rattle.sds_spec.specs.Kept.{writer_in}
 use Rattle.sds_spec.specs.Settled.{kept_number, all_ok}
 use Rattle.sds_node.specs.Meaning.{kept_of}
 use Rattle.sds_world.specs.declared.line.Line.{Line}
-use Rattle.sds_world.specs.declared.line.Line.TheVariants.{Skip, Opening, Write, Row, End, Route, Push, Show, Other}
+use Rattle.sds_world.specs.declared.line.Line.TheVariants.{Write}
 use Rattle.sds_world.specs.declared.nodes.Named.{Named}
 
 -- the number of a writer's last accepted write, or 0

@@ -1,7 +1,6 @@
 -- What holds of the place and the world behind lines that may stand, and of the stage that has played them.
-use Rattle.std.specs.Prelude.{◌≡◌, ℕ, ◌≤◌, ◌<◌, true, List, [], ◌∷◌, ◌++◌, length, All, IfSome, Option, None, Some}
+use Rattle.std.specs.Prelude.{◌≡◌, ℕ, ◌≤◌, ◌<◌, true, List, [], ◌∷◌, length, All, IfSome}
 use Rattle.std.specs.Option.{option_map_or}
-use Rattle.sds_value.specs.Names.{is_name_text}
 use Rattle.sds_spec.specs.declared.row.TxRow.{TxRow}
 use Rattle.sds_spec.specs.One.{one}
 use Rattle.sds_spec.specs.Screen.{printed_by}
@@ -12,7 +11,7 @@ use Rattle.sds_world.specs.declared.place.Draft.{Draft}
 use Rattle.sds_world.specs.declared.place.Place.{Place}
 use Rattle.sds_world.specs.declared.stage.Stage.{Stage}
 use Rattle.sds_world.specs.Looking.{corp, s1, completed, place_of}
-use Rattle.sds_world.specs.Played.{world_of, may_stand}
+use Rattle.sds_world.specs.Played.{world_of}
 use Rattle.sds_world.specs.Playing.{Waits, Stands, beginning}
 
 -- the world of one node, and of two that haven't met

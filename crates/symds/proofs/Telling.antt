@@ -1,5 +1,5 @@
 -- What the program says and writes of a rehearsal is what the scenario's text has.
-use Rattle.std.proofs.Common.{◌≡◌, ℕ, List, [], ◌++◌, take, Option, None, Some, Result, refl, sym, ap, ◌∙◌, arith, append-nil}
+use Rattle.std.proofs.Common.{◌≡◌, ℕ, List, [], take, Option, None, Some, Result, refl, sym, ap, ◌∙◌, arith, append-nil}
 use Rattle.std.specs.Prelude.{IfSome}
 use Rattle.sds_outside.specs.Told.{after_told}
 use Rattle.sds_world.specs.declared.rehearsal.BadLine.{BadLine}
@@ -16,11 +16,11 @@ status_ends (Some bad) = refl
 tells : (text : List ℕ) (result : Result (Unit {0}) WorldRefusal) (status : Status) (old new : Option (List ℕ)) → status ≡ status_by result → Shows text result old new → Tells text status old new
 tells text result status old new is shows = record {
   ends = λ read write memory.
-    let both : (result ≡ ending (refusal_of text)) × (new ≡ after_told old (screen text)) =
-        shows.ends (λ failed. read (is ∙ ap status_by failed)) (λ failed. write (is ∙ ap status_by failed)) (λ failed. memory (is ∙ ap status_by failed)) in (
-      is ∙ (ap status_by both.0 ∙ status_ends (refusal_of text)),
-      both.1,
-    );
+      let both : (result ≡ ending (refusal_of text)) × (new ≡ after_told old (screen text)) =
+      shows.ends (λ failed. read (is ∙ ap status_by failed)) (λ failed. write (is ∙ ap status_by failed)) (λ failed. memory (is ∙ ap status_by failed)) in (
+        is ∙ (ap status_by both.0 ∙ status_ends (refusal_of text)),
+        both.1,
+      );
   part = shows.part;
 }
 

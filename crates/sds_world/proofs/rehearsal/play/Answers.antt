@@ -1,4 +1,4 @@
-use Rattle.std.proofs.Common.{◌≡◌, List, [], ℕ, inr, refl, ap, subst, ◌∙◌}
+use Rattle.std.proofs.Common.{List, [], ℕ, inr, refl, ap, ◌∙◌}
 use Rattle.sds_spec.specs.One.{one}
 use Rattle.sds_spec.specs.Screen.{screen_of}
 use Rattle.sds_spec.specs.World.{empty_world}

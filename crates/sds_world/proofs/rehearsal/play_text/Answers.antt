@@ -1,5 +1,5 @@
-use Rattle.std.proofs.Common.{◌≡◌, ◌<◌, ℕ, Bool, true, false, length, rules, arith, ◌∙◌, ap}
-use Rattle.sds_world.proofs.Turning.{Ended, one_on, one_off}
+use Rattle.std.proofs.Common.{◌≡◌, ◌<◌, true, length, rules, arith, ◌∙◌}
+use Rattle.sds_world.proofs.Turning.{one_on, one_off}
 use Rattle.sds_world.proofs.rehearsal.play_text.Goals as goal
 use Rattle.sds_world.proofs.rehearsal.play_text.Goals.{else-is_over-via-then-is_over+else-is_empty, else-is_over-via-else-is_over}
 

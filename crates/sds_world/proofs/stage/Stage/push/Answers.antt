@@ -1,4 +1,4 @@
-use Rattle.std.proofs.Common.{◌≡◌, ℕ, List, length, subst, arith, vec_len}
+use Rattle.std.proofs.Common.{◌≡◌, List, subst, arith, vec_len}
 use Rattle.sds_spec.specs.declared.answer.Ack.{Ack}
 use Rattle.sds_spec.specs.declared.batch.Sent.{Sent}
 use Rattle.sds_world.proofs.Pushing.{ReceiveSays, AnswerSays, is_none, is_some, pushed_none, pushed_all}
