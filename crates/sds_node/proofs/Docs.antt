@@ -1,14 +1,11 @@
 -- The rows of a document, in the one configuration.
-use Rattle.std.proofs.Common.{◌≡◌, ◌≢◌, ℕ, List, [], ◌∷◌, None, Some, refl, ap, ◌∙◌, suc, zero, map, codes}
+use Rattle.std.proofs.Common.{◌≡◌, ◌≢◌, ℕ, [], ◌∷◌, None, refl, suc, zero, map, codes}
 use Rattle.std.specs.Prelude.{slice_get}
 use Rattle.std.specs.Str.{chars}
-use Rattle.sds_value.specs.declared.row.DocRow.{DocRow}
-use Rattle.sds_spec.specs.declared.batch.OutBatch.{OutBatch}
 use Rattle.sds_spec.specs.declared.row.Change.{Change}
-use Rattle.sds_spec.specs.Acts.{State}
-use Rattle.sds_spec.specs.Lanes.{doc_of, field_of, values_of, batch_at, rows_at}
+use Rattle.sds_spec.specs.Lanes.{doc_of, field_of, values_of}
 use Rattle.sds_spec.specs.One.{one, pair_table}
-use Rattle.sds_node.specs.Documents.{doc_with, pair_doc, docs_of}
+use Rattle.sds_node.specs.Documents.{doc_with, pair_doc}
 
 pub pair_name : chars (codes "pair") ≡ codes "pair"
 unfolding chars

@@ -1,5 +1,5 @@
 -- What loading a batch does, in the one configuration.
-use Rattle.std.proofs.Common.{◌≡◌, ℕ, ◌+◌, ◌<◌, Bool, true, false, ◌&&◌, ◌==◌, not, List, [], ◌∷◌, ◌++◌, length, take, drop, get_or, map, Option, None, Some, Ok, Err, All, refl, sym, ap, ◌∙◌, append-nil, add-one, codes, arith}
+use Rattle.std.proofs.Common.{◌≡◌, ℕ, ◌+◌, ◌<◌, Bool, true, false, ◌&&◌, not, List, [], ◌∷◌, ◌++◌, length, take, drop, get_or, map, Option, None, Some, Ok, Err, All, refl, sym, ap, ◌∙◌, append-nil, add-one, codes, arith}
 use Rattle.std.specs.Prelude.{if◌then◌else◌, nat_lt, nat_le}
 use Rattle.std.specs.Str.{bytes_eq}
 use Rattle.std.proofs.lemmas.List.{drop_more, set_split, get_or_default}
@@ -11,14 +11,10 @@ use Rattle.sds_value.specs.declared.row.Event.{Event}
 use Rattle.sds_value.specs.declared.row.Field.{Field}
 use Rattle.sds_value.specs.declared.table.ColumnDef.{ColumnDef}
 use Rattle.sds_value.specs.declared.kind.Kind.TheVariants.{Integer, Varchar}
-use Rattle.sds_spec.specs.declared.row.Done.{Done}
 use Rattle.sds_spec.specs.declared.row.LoadRow.{LoadRow}
 use Rattle.sds_spec.specs.declared.row.Row.{Row}
-use Rattle.sds_spec.specs.declared.row.RowStep.{RowStep}
-use Rattle.sds_spec.specs.declared.row.RowStep.TheVariants.{Insert, Update, Delete}
 use Rattle.sds_spec.specs.declared.row.TableRow.{TableRow}
 use Rattle.sds_spec.specs.Capture.{after_all, field_value, is_allowed, are_allowed, is_insert, row_values}
-use Rattle.sds_spec.specs.Changes.{changes_from, captured_channel}
 use Rattle.sds_spec.specs.One.{one}
 use Rattle.sds_spec.specs.Outcome.{is_whole_insert, read_row, read_rows, with_values, insert_by, load_step, load_steps}
 use Rattle.sds_spec.specs.Places.{columns_of, column_place}

@@ -1,5 +1,5 @@
 -- Which of a node's batches an offer and a call for rows name.
-use Rattle.std.specs.Prelude.{ℕ, ◌-◌, Bool, ◌&&◌, ◌==◌, not, if◌then◌else◌, List, [], ◌∷◌, map, flat_map, Option, None, Some}
+use Rattle.std.specs.Prelude.{ℕ, ◌-◌, Bool, ◌&&◌, ◌==◌, not, if◌then◌else◌, List, [], ◌∷◌, map, flat_map}
 use Rattle.std.specs.Str.{bytes_eq}
 use Rattle.sds_config.specs.declared.config.Config.{Config}
 use Rattle.sds_spec.specs.declared.batch.OutBatch.{OutBatch}

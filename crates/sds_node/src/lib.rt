@@ -10,6 +10,8 @@ mod offering;
 mod routing;
 mod rows;
 mod shown;
+#[cfg(test)]
+mod tests;
 mod writing;
 
 pub use node::Node;
