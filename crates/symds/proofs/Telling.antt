@@ -1,10 +1,12 @@
 -- What the program says and writes of a rehearsal is what the scenario's text has.
-use Rattle.std.proofs.Common.{◌≡◌, ℕ, List, [], take, Option, None, Some, Result, refl, sym, ap, ◌∙◌, arith, append-nil}
+use Rattle.std.proofs.Common.{◌≡◌, inr, ℕ, List, Option, None, Some, Result, Err, refl, ap, ◌∙◌}
 use Rattle.std.specs.Prelude.{IfSome}
 use Rattle.sds_outside.specs.Told.{after_told}
 use Rattle.sds_world.specs.declared.rehearsal.BadLine.{BadLine}
 use Rattle.sds_world.specs.declared.rehearsal.WorldRefusal.{WorldRefusal}
+use Rattle.sds_world.specs.declared.rehearsal.WorldRefusal.TheVariants as refusal
 use Rattle.sds_world.specs.Played.{refusal_of, screen, ending, Shows}
+use Rattle.sds_world.proofs.Answering.{unshown}
 use Rattle.symds.specs.declared.status.Status.{Status}
 use Rattle.symds.specs.declared.status.Status.TheVariants.{NoMemory}
 use Rattle.symds.specs.Rehearsed.{status_by, status_of, Tells}
@@ -30,13 +32,5 @@ told_so None result status old new is shows = tt
 told_so (Some text) result status old new is shows = tells text result status old new is shows
 
 -- for want of memory, nothing is written
-unchanged : (told : Option (List ℕ)) → told ≡ after_told told []
-unchanged None = refl
-unchanged (Some front) = ap (λ (l : List ℕ). Some l) (sym (append-nil front))
-
-unwritten : (told : Option (List ℕ)) (text : List ℕ) → told ≡ after_told told (take 0 text)
-unwritten told text = unchanged told
-
 pub untold : (o : Option (List ℕ)) (status : Status) (told : Option (List ℕ)) → status ≡ NoMemory → IfSome o (λ (text : List ℕ). Tells text status told told)
-untold None status told is = tt
-untold (Some text) status told is = record { ends = λ read write memory. absurd (memory is); part = (0, (omega arith, unwritten told (screen text))) }
+untold o status told is = told_so o (Err refusal.NoMemory) status told told is (unshown o told (Err refusal.NoMemory) (inr refl))
