@@ -7,3 +7,5 @@ pub mod Characters
 pub mod Back
 pub mod Alone
 pub mod Hope
+pub mod Scalars
+pub mod Onward

@@ -1,9 +1,10 @@
-ghost use Rattle.std.specs.Prelude.{◌≡◌, ◌+◌, ◌<◌, ◌≤◌, ◌++◌, ◌∷◌, [], ℕ, List, length, IsTrue, false, Ok, Err, None};
+ghost use Rattle.std.specs.Prelude.{◌≡◌, ◌+◌, ◌<◌, ◌≤◌, ◌++◌, ◌∷◌, [], ℕ, Bool, List, length, All, IsTrue, true, false, Ok, Err, Some, None};
 ghost use Rattle.sds_value.specs.declared.row.Field.{Field};
+ghost use Rattle.sds_line.specs.declared.line.Line.{Line};
 ghost use Rattle.sds_line.specs.declared.refusal.LineRefusal.{LineRefusal};
 ghost use Rattle.sds_line.specs.declared.refusal.LineRefusal.TheVariants.{LineTooLong};
 ghost use Rattle.sds_line.specs.Reading.{HalfLine, empty_line, with_byte, with_bytes, ended_line, line_of};
-ghost use Rattle.sds_line.specs.Splitting.{lines_from, line_feeds, line_begun, is_end, refused, numbered, behind};
+ghost use Rattle.sds_line.specs.Splitting.{lines_from, lines_in, line_feeds, line_begun, is_end, refused, numbered, behind};
 ghost use Rattle.sds_line.specs.Written.{written_line, has_form, are_fields};
 
 /// The law that the written form of fields reads back as those fields: of each list but the empty one and a lone null.
@@ -34,4 +35,20 @@ pub fn lines_are_read_alone()
 pub fn refusals_come_first()
     ensures hopeless { (front more : List ℕ) (refusal : LineRefusal) → with_bytes empty_line front ≡ Err refusal → line_of (front ++ more) ≡ Err refusal }
     ensures hopeful { (front : List ℕ) (half : HalfLine) → with_bytes empty_line front ≡ Ok half → (more : List ℕ) × (fields : List Field) × (line_of (front ++ more) ≡ Ok fields) }
+{}
+
+/// The law that every text of every line of a text is made of characters, whatever bytes the text has.
+pub fn lines_are_of_characters()
+    ensures { (finished : Bool) (text : List ℕ) → All (λ (line : Line). are_fields line.fields ≡ true) (lines_in finished text).lines }
+{}
+
+/// The law that the lines of a front of a text are the first lines of the text.
+///
+/// Of a text that goes on, and of one whose end comes to be known: lines are added behind those that it has. Where a
+/// front is refused, whatever follows it and its end change nothing.
+pub fn lines_go_on()
+    ensures on { (finished : Bool) (front more : List ℕ) → (rest : List Line) × ((lines_in finished (front ++ more)).lines ≡ (lines_in false front).lines ++ rest) }
+    ensures end { (text : List ℕ) → (rest : List Line) × ((lines_in true text).lines ≡ (lines_in false text).lines ++ rest) }
+    ensures refused { (finished : Bool) (front more : List ℕ) (refusal : LineRefusal) → (lines_in false front).stop ≡ Some refusal → lines_in finished (front ++ more) ≡ lines_in false front }
+    ensures refused_end { (text : List ℕ) (refusal : LineRefusal) → (lines_in false text).stop ≡ Some refusal → lines_in true text ≡ lines_in false text }
 {}

@@ -15,7 +15,10 @@ mod tests;
 mod writing;
 
 use draft::Draft;
-pub use laws::{lines_are_read_alone, refusals_come_first, written_reads_back};
+pub use laws::{
+    lines_are_of_characters, lines_are_read_alone, lines_go_on, refusals_come_first,
+    written_reads_back,
+};
 pub use line::Line;
 pub use lines::Lines;
 use partial::Partial;

@@ -4,6 +4,7 @@ pub mod Records
 pub mod Exchanges
 pub mod Stands
 pub mod StdStreams
+pub mod FileSources
 pub mod MemStreams
 pub mod MemKeeping
 pub mod MemLinking

@@ -1,10 +1,11 @@
 //! What a program meets outside itself: sources, sinks, keepers of records and links, each with a meaning
 //! and a count of its faults. Beside the traits stand fakes in memory, which fail at the calls of a list,
-//! and adapters over std's readers and writers.
+//! and adapters over std's readers, writers and files.
 #![tactic(auto)]
 
 mod calls;
 mod failing;
+mod file_source;
 mod keeping;
 mod linking;
 mod mem_keeper;
@@ -18,6 +19,7 @@ mod tests;
 mod transfer;
 
 pub use failing::{Fail, Failed};
+pub use file_source::FileSource;
 pub use keeping::{Edit, KeepFail, Keeper};
 pub use linking::{Exchange, Link, REPLY_LIMIT};
 pub use mem_keeper::{FailAt, MemKeeper};

@@ -1,10 +1,12 @@
 // The fakes on their happy paths and with each failing call in turn, and the adapters once.
 use crate::{
-    Edit, Exchange, Fail, FailAt, Failed, KeepFail, Keeper, Link, MemKeeper, MemLink, MemSink,
-    MemSource, ReadStop, Sink, Source, StdSink, StdSource, are_distinct, read_all, write_all,
+    Edit, Exchange, Fail, FailAt, Failed, FileSource, KeepFail, Keeper, Link, MemKeeper, MemLink,
+    MemSink, MemSource, ReadStop, Sink, Source, StdSink, StdSource, are_distinct, read_all,
+    write_all,
 };
 use sds_base::{Bytes, List, NoMemory, Same, Twin};
 use std::alloc::Global;
+use std::fs;
 use std::test::Fail as TestFail;
 
 fn bytes(alloc: Global, text: &str) -> Result<Bytes, NoMemory> {
@@ -232,5 +234,27 @@ fn a_writer_of_std_takes_all_or_counts_a_fault(rt: HostRuntime) -> Result<(), Te
     let mut room = [0u8; 2];
     let mut full = StdSink::new(room.as_mut_slice());
     assert_eq!(rt; write_all(&mut full, "hello".as_bytes()), Err(Failed));
+    Ok(())
+}
+
+#[test]
+fn a_file_is_read_to_its_end_and_a_missing_one_fails(rt: HostRuntime) -> Result<(), TestFail> {
+    let alloc = rt.alloc();
+    let path = "sds_outside_file_to_read";
+    fs::write(&rt, path, "hello")?;
+    let mut source = FileSource::open(&rt, path);
+    let whole = read_all(alloc, &mut source, 9)?;
+    fs::remove_file(&rt, path)?;
+    assert!(rt; !whole.is_over);
+    assert_eq!(rt; whole.bytes.inner().as_slice(), "hello".as_bytes());
+    let mut missing = FileSource::open(&rt, path);
+    let mut piece = [0u8; 3];
+    for _turn in 0..2u64 {
+        assert_eq!(rt; missing.read(&mut piece), Err(Failed));
+    }
+    assert_eq!(rt;
+        read_all(alloc, &mut missing, 9).err(),
+        Some(ReadStop::Fault)
+    );
     Ok(())
 }
