@@ -1,5 +1,5 @@
 -- The section `conflict`: how conflicts in a table are seen and resolved between two groups. There is at most one entry for these three.
-use Rattle.std.specs.Prelude.{ℕ, Bool, true, false, not, ◌&&◌, ◌||◌, ◌==◌, if◌then◌else◌, List, [], ◌∷◌, length, take, codes, Option, Some, None, is_some, option_map, option_and_then, Result, Ok, Err}
+use Rattle.std.specs.Prelude.{ℕ, Bool, true, false, ◌&&◌, ◌==◌, if◌then◌else◌, List, [], ◌∷◌, take, codes, Option, Some, None, option_map, option_and_then, Result, Ok, Err}
 use Rattle.std.specs.List.{list_any, slice_get}
 use Rattle.std.specs.Str.{chars}
 use Rattle.toml.specs.Data.{Members}
@@ -10,14 +10,13 @@ use Rattle.sds_value.specs.declared.table.TableDef.{TableDef}
 use Rattle.sds_config.specs.declared.config.Config.{Config}
 use Rattle.sds_config.specs.declared.convert.ConflictDef.{ConflictDef}
 use Rattle.sds_config.specs.declared.convert.DetectType.{DetectType}
-use Rattle.sds_config.specs.declared.convert.DetectType.TheVariants.{UsePkData, UseOldData, UseChangedData, UseTimestamp, UseVersion}
+use Rattle.sds_config.specs.declared.convert.DetectType.TheVariants.{UseTimestamp, UseVersion}
 use Rattle.sds_config.specs.declared.convert.ResolveType.{ResolveType}
-use Rattle.sds_config.specs.declared.convert.ResolveType.TheVariants.{Fallback, Ignore, Manual, NewerWins}
+use Rattle.sds_config.specs.declared.convert.ResolveType.TheVariants.{NewerWins}
 use Rattle.sds_config.specs.declared.refusal.ConfigRefusal.{ConfigRefusal}
 use Rattle.sds_config.specs.declared.refusal.ConfigRefusal.TheVariants.{BadSetting, Duplicate, NoLink}
 use Rattle.sds_config.specs.declared.conflicts.Detect.{Detect}
 use Rattle.sds_config.specs.declared.conflicts.Resolve.{Resolve}
-use Rattle.sds_config.specs.declared.ends.Ends.{Ends}
 use Rattle.sds_config.specs.Ends.{ends_at}
 use Rattle.sds_config.specs.Refusals.{and_then}
 use Rattle.sds_config.specs.Fields.{only_keys, place_at, place_of, flag_at, word_at, text_or_empty}

@@ -15,4 +15,5 @@ pub mod Ends
 pub mod Routers
 pub mod Configuration
 pub mod TransformColumns
+pub mod ComputedColumns
 pub mod Transforms

@@ -1,5 +1,5 @@
 -- How many entries the sections have at most.
-use Rattle.std.specs.Prelude.{◌≤◌, ℕ, length}
+use Rattle.std.specs.Prelude.{◌≤◌, length}
 use Rattle.sds_config.specs.declared.config.Config.{Config}
 
 -- a place in a section that others refer to fits in any number of the file

@@ -14,7 +14,6 @@ use Rattle.sds_expressions.specs.declared.subselect.Condition.{Condition}
 use Rattle.sds_expressions.specs.declared.subselect.Subselect.{Subselect as Choice}
 use Rattle.sds_expressions.specs.declared.tested.ColumnTest.{ColumnTest}
 use Rattle.sds_config.specs.declared.config.Config.{Config}
-use Rattle.sds_config.specs.declared.ends.Ends.{Ends}
 use Rattle.sds_config.specs.declared.refusal.ConfigRefusal.{ConfigRefusal}
 use Rattle.sds_config.specs.declared.refusal.ConfigRefusal.TheVariants.{BadExpression, BadSetting, NoLink, UnknownName}
 use Rattle.sds_config.specs.declared.route.RouterDef.{RouterDef}

@@ -1,5 +1,5 @@
 -- A section: an array of tables, whose entries are read in order, each knowing those before it.
-use Rattle.std.specs.Prelude.{ℕ, suc, ◌+◌, nat_lt, if◌then◌else◌, List, [], ◌∷◌, ◌++◌, length, Option, Some, None, Result, Ok, Err}
+use Rattle.std.specs.Prelude.{ℕ, ◌+◌, nat_lt, if◌then◌else◌, List, [], ◌∷◌, ◌++◌, length, Some, None, Result, Ok, Err}
 use Rattle.std.specs.Str.{chars}
 use Rattle.toml.specs.Data.{Data, Items, no_items, item, Members, get_member, as_array, as_table}
 use Rattle.sds_config.specs.declared.config.Config.{Config}

@@ -2,7 +2,7 @@
 use Rattle.std.specs.Prelude.{ℕ, ◌+◌, ◌*◌, Bool, true, false, not, ◌&&◌, ◌==◌, nat_le, nat_lt, if◌then◌else◌, List, [], ◌∷◌, ◌++◌, length, map, codes, Option, Some, None, option_map, option_and_then, unwrap_or, Result, Ok, Err}
 use Rattle.std.specs.List.{list_any, list_all, slice_get}
 use Rattle.std.specs.Str.{bytes_eq, chars}
-use Rattle.toml.specs.Data.{Data, Items, no_items, item, Members, as_array, as_str}
+use Rattle.toml.specs.Data.{Items, no_items, item, Members, as_array, as_str}
 use Rattle.sds_value.specs.declared.kind.Kind.{Kind}
 use Rattle.sds_value.specs.declared.kind.Kind.TheVariants.{Integer, Decimal, Varchar, Timestamp, Varbinary}
 use Rattle.sds_value.specs.declared.table.ColumnDef.{ColumnDef}

@@ -1,16 +1,15 @@
 -- The section `transform.column`: how a transform makes its columns.
-use Rattle.std.specs.Prelude.{ℕ, Bool, true, false, if◌then◌else◌, List, [], ◌∷◌, codes, Option, Some, None, Result, Ok}
+use Rattle.std.specs.Prelude.{ℕ, Bool, true, false, if◌then◌else◌, List, [], ◌∷◌, codes, Some, None, Result, Ok}
 use Rattle.std.specs.Str.{chars}
 use Rattle.toml.specs.Data.{Members, get_member}
 use Rattle.sds_value.specs.Names.{is_name_text}
 use Rattle.sds_config.specs.declared.config.Config.{Config}
-use Rattle.sds_config.specs.declared.convert.TransformColumn.{TransformColumn}
 use Rattle.sds_config.specs.declared.refusal.ConfigRefusal.{ConfigRefusal}
+use Rattle.sds_config.specs.declared.formulas.ColumnEntry.{ColumnEntry}
 use Rattle.sds_config.specs.declared.formulas.Formula.{Formula}
 use Rattle.sds_config.specs.declared.formulas.Making.{Making}
 use Rattle.sds_config.specs.Fields.{only_keys, name_at, text_at, text_or_empty, flag_at, word_at, allowed}
 use Rattle.sds_config.specs.Refusals.{and_then}
-use Rattle.sds_config.specs.Sections.{entries_from, items_at}
 use Rattle.sds_config.specs.Words.{column_kind_of}
 
 abbrev pub transform_column_keys : List (List ℕ)
@@ -44,8 +43,9 @@ formula_at entry at =
     and_then (text_or_empty entry at (codes "expression")) (λ expression.
     Ok (record { include_on = include_on; kind = kind; expression = expression }))))
 
-abbrev pub transform_column_of : Config → List TransformColumn → Members → List ℕ → Result TransformColumn ConfigRefusal
-transform_column_of config earlier entry at =
+-- the column as its entry writes it
+abbrev pub column_entry_of : Config → List ColumnEntry → Members → List ℕ → Result ColumnEntry ConfigRefusal
+column_entry_of config earlier entry at =
     and_then (only_keys transform_column_keys entry at) (λ _.
     and_then (making_at entry at) (λ making.
     and_then (formula_at entry at) (λ formula.

@@ -1,15 +1,14 @@
 -- The section `transform`: what becomes of a table's rows between two groups.
-use Rattle.std.specs.Prelude.{ℕ, Bool, true, false, not, ◌&&◌, ◌||◌, ◌==◌, nat_le, nat_lt, if◌then◌else◌, List, [], ◌∷◌, length, count_by, codes, Option, Some, None, is_some, option_and_then, Result, Ok, Err}
+use Rattle.std.specs.Prelude.{ℕ, Bool, true, false, not, ◌&&◌, ◌||◌, ◌==◌, nat_le, if◌then◌else◌, List, [], ◌∷◌, length, count_by, codes, Option, Some, None, option_and_then, Result, Ok, Err}
 use Rattle.std.specs.List.{list_any, list_all, slice_get}
 use Rattle.std.specs.Str.{bytes_eq, chars, encode_utf8_all}
 use Rattle.toml.specs.Data.{Members, get_member}
 use Rattle.sds_value.specs.declared.kind.Kind.{Kind}
 use Rattle.sds_value.specs.declared.kind.Kind.TheVariants as kind
 use Rattle.sds_value.specs.declared.table.TableDef.{TableDef}
-use Rattle.sds_expressions.specs.Computed.{left_of, substr_of, value_map_of, variable_of, multiplier_of}
 use Rattle.sds_config.specs.declared.config.Config.{Config}
 use Rattle.sds_config.specs.declared.convert.ColumnKind.{ColumnKind}
-use Rattle.sds_config.specs.declared.convert.ColumnKind.TheVariants.{Copy, Remove, Const, Left, Substr, ValueMap, Variable, Additive}
+use Rattle.sds_config.specs.declared.convert.ColumnKind.TheVariants.{Remove, Additive}
 use Rattle.sds_config.specs.declared.convert.ColumnPolicy.{ColumnPolicy}
 use Rattle.sds_config.specs.declared.convert.ColumnPolicy.TheVariants.{Specified, Implied}
 use Rattle.sds_config.specs.declared.convert.DeleteAction.TheVariants.{DelRow}
@@ -19,14 +18,17 @@ use Rattle.sds_config.specs.declared.convert.TransformColumn.{TransformColumn}
 use Rattle.sds_config.specs.declared.convert.TransformDef.{TransformDef}
 use Rattle.sds_config.specs.declared.refusal.ConfigRefusal.{ConfigRefusal}
 use Rattle.sds_config.specs.declared.refusal.ConfigRefusal.TheVariants.{BadSetting, NoLink, UnknownName}
+use Rattle.sds_config.specs.declared.ends.Ends.{Ends}
+use Rattle.sds_config.specs.declared.formulas.ColumnEntry.{ColumnEntry}
 use Rattle.sds_config.specs.declared.transforms.Policies.{Policies}
 use Rattle.sds_config.specs.declared.transforms.Way.{Way}
+use Rattle.sds_config.specs.ComputedColumns.{columns_of}
 use Rattle.sds_config.specs.Ends.{ends_at}
 use Rattle.sds_config.specs.Fields.{field_path, only_keys, id_at, name_at, word_at, word_or, place_of}
 use Rattle.sds_config.specs.Links.{leads}
 use Rattle.sds_config.specs.Refusals.{and_then}
 use Rattle.sds_config.specs.Sections.{entries_from, items_at}
-use Rattle.sds_config.specs.TransformColumns.{transform_column_of}
+use Rattle.sds_config.specs.TransformColumns.{column_entry_of}
 use Rattle.sds_config.specs.Words.{point_of, delete_action_of, column_policy_of}
 
 abbrev pub is_remove : ColumnKind → Bool
@@ -57,11 +59,11 @@ are_events (e ∷ es) = is_star (e ∷ es) || are_letters (e ∷ es)
 abbrev pub share_event : List ℕ → List ℕ → Bool
 share_event a b = is_star a || (is_star b || list_any (has_event b) a)
 
-abbrev pub clash : TransformColumn → TransformColumn → Bool
+abbrev pub clash : ColumnEntry → ColumnEntry → Bool
 clash a b = bytes_eq b.target a.target && share_event (encode_utf8_all a.include_on) (encode_utf8_all b.include_on)
 
 -- no two columns make one target at one event
-abbrev pub are_apart : List TransformColumn → Bool
+abbrev pub are_apart : List ColumnEntry → Bool
 are_apart [] = true
 are_apart (column ∷ columns) = not (list_any (clash column) columns) && are_apart columns
 
@@ -70,13 +72,13 @@ abbrev pub has_column : TableDef → List ℕ → Bool
 has_column table name = list_any (λ column. bytes_eq column.name name) table.columns
 
 -- the columns that are named of the configuration's table: the sources before a batch is written, the targets where it is loaded
-abbrev pub is_known : Point → TableDef → TransformColumn → Bool
+abbrev pub is_known : Point → TableDef → ColumnEntry → Bool
 is_known Extract table column = nat_le (length column.source) 0 || has_column table column.source
 is_known Load table column = is_remove column.kind || has_column table column.target
 
 -- the name of the table that the configuration has
-abbrev pub own_table : TransformDef → List ℕ
-own_table transform = elim transform.point [ Extract ↦ transform.source_table | Load ↦ transform.target_table ]
+abbrev pub own_table : Way → List ℕ
+own_table way = elim way.point [ Extract ↦ way.source_table | Load ↦ way.target_table ]
 
 abbrev pub table_named : List TableDef → List ℕ → Option TableDef
 table_named tables name = option_and_then (λ place. slice_get tables place) (place_of (λ table. table.name) tables name)
@@ -101,80 +103,73 @@ is_load Load = true
 is_load Extract = false
 
 -- an additive column is made where a batch is loaded, of a number that is no key
-abbrev pub adds_well : Point → TableDef → TransformColumn → Bool
+abbrev pub adds_well : Point → TableDef → ColumnEntry → Bool
 adds_well point table column = is_load point && (not column.pk && takes_sums table column.target)
-
--- the expression is of its type's form, by its bytes in UTF-8
-abbrev pub is_formed : ColumnKind → List ℕ → Bool
-is_formed Copy text = true
-is_formed Remove text = true
-is_formed Const text = true
-is_formed Left text = is_some (left_of text)
-is_formed Substr text = is_some (substr_of text)
-is_formed ValueMap text = is_some (value_map_of text)
-is_formed Variable text = is_some (variable_of text)
-is_formed Additive text = is_some (multiplier_of text)
 
 abbrev pub is_additive : ColumnKind → Bool
 is_additive Additive = true
 is_additive kind = false
 
 -- a key takes part at all events and is made
-abbrev pub suits_key : TransformColumn → Bool
+abbrev pub suits_key : ColumnEntry → Bool
 suits_key column = not column.pk || (is_star (encode_utf8_all column.include_on) && not (is_remove column.kind))
 
--- what has to hold of a column by itself
-abbrev pub is_column_sound : Point → ColumnPolicy → TableDef → TransformColumn → Bool
+-- what has to hold of a column by itself, beside the form of its expression
+abbrev pub is_column_sound : Point → ColumnPolicy → TableDef → ColumnEntry → Bool
 is_column_sound point policy table column =
     are_events (encode_utf8_all column.include_on)
     && (suits_key column
     && (nat_le (length column.expression) 2000
     && ((not (is_remove column.kind) || is_implied policy)
-    && ((not (is_additive column.kind) || adds_well point table column)
-    && is_formed column.kind (encode_utf8_all column.expression)))))
+    && (not (is_additive column.kind) || adds_well point table column))))
 
 -- a `remove` takes the column of this name away
-abbrev pub is_removed : List TransformColumn → List ℕ → Bool
+abbrev pub is_removed : List ColumnEntry → List ℕ → Bool
 is_removed columns name = list_any (λ column. is_remove column.kind && bytes_eq column.target name) columns
 
 -- a key column of the source that no `remove` takes away
-abbrev pub key_stays : TableDef → List TransformColumn → ℕ → Bool
+abbrev pub key_stays : TableDef → List ColumnEntry → ℕ → Bool
 key_stays table columns place = elim (slice_get table.columns place) [
   | None ↦ false
   | Some key ↦ not (is_removed columns key.name)
 ]
 
 -- before a batch is written, at least one column is a key, or under the implied policy one of the source's keys stays
-abbrev pub has_keys : Point → ColumnPolicy → TableDef → List TransformColumn → Bool
+abbrev pub has_keys : Point → ColumnPolicy → TableDef → List ColumnEntry → Bool
 has_keys Load policy table columns = true
 has_keys Extract policy table columns =
     list_any (λ column. column.pk) columns || (is_implied policy && list_any (key_stays table columns) table.key)
 
--- what has to hold of a transform's columns
-abbrev pub is_sound : TableDef → TransformDef → Bool
-is_sound table transform =
-    list_all (is_column_sound transform.point transform.column_policy table) transform.columns
-    && (nat_le (count_by (λ column. column.pk) transform.columns) 32
-    && (has_keys transform.point transform.column_policy table transform.columns
-    && are_apart transform.columns))
+-- what has to hold of a transform's columns, beside the forms of their expressions
+abbrev pub is_sound : Point → ColumnPolicy → TableDef → List ColumnEntry → Bool
+is_sound point policy table columns =
+    list_all (is_column_sound point policy table) columns
+    && (nat_le (count_by (λ column. column.pk) columns) 32
+    && (has_keys point policy table columns
+    && are_apart columns))
 
--- the transform between tables and columns that are known
-abbrev pub judged : List ℕ → Option TableDef → TransformDef → Result TransformDef ConfigRefusal
-judged at None transform = Err (UnknownName (chars at))
-judged at (Some table) transform =
-    if list_all (is_known transform.point table) transform.columns
-    then (if is_sound table transform then Ok transform else Err (BadSetting (chars at)))
+-- the columns of entries that are known and sound; an expression that isn't of its form is refused last
+abbrev pub formed : List ℕ → Option (List TransformColumn) → Result (List TransformColumn) ConfigRefusal
+formed at None = Err (BadSetting (chars at))
+formed at (Some columns) = Ok columns
+
+-- the columns of a transform of or for a table that is known
+abbrev pub judged : List ℕ → Option TableDef → Point → ColumnPolicy → List ColumnEntry → Result (List TransformColumn) ConfigRefusal
+judged at None point policy entries = Err (UnknownName (chars at))
+judged at (Some table) point policy entries =
+    if list_all (is_known point table) entries
+    then (if is_sound point policy table entries then formed at (columns_of entries) else Err (BadSetting (chars at)))
     else Err (UnknownName (chars at))
 
 -- the table of the configuration that the transform makes rows of or for
-abbrev pub known_table : Config → TransformDef → Option TableDef
-known_table config transform = table_named config.tables (own_table transform)
+abbrev pub known_table : Config → Way → Option TableDef
+known_table config way = table_named config.tables (own_table way)
 
--- the transform as a whole
-abbrev pub whole_transform : Config → List ℕ → TransformDef → Result TransformDef ConfigRefusal
-whole_transform config at transform =
-    if leads config.links transform.source_group transform.target_group
-    then judged at (known_table config transform) transform
+-- the columns of a transform, which is judged as a whole
+abbrev pub whole_transform : Config → List ℕ → Ends → Way → Policies → List ColumnEntry → Result (List TransformColumn) ConfigRefusal
+whole_transform config at ends way policies entries =
+    if leads config.links ends.source ends.target
+    then judged at (known_table config way) way.point policies.column_policy entries
     else Err (NoLink (chars at))
 
 abbrev pub transform_keys : List (List ℕ)
@@ -194,12 +189,12 @@ policies_at entry at =
     and_then (word_or Specified column_policy_of entry at (codes "column_policy")) (λ column_policy.
     Ok (record { delete_action = delete_action; column_policy = column_policy })))
 
--- its columns, which are at most 64
-abbrev pub columns_at : Config → Members → List ℕ → List ℕ → Result (List TransformColumn) ConfigRefusal
+-- the entries of its columns, which are at most 64
+abbrev pub columns_at : Config → Members → List ℕ → List ℕ → Result (List ColumnEntry) ConfigRefusal
 columns_at config entry at key = elim (get_member key entry) [
   | None ↦ Ok []
   | Some value ↦ and_then (items_at 64 (codes "transform.column") value at key)
-      (λ items. entries_from transform_column_of config (field_path at key) [] items)
+      (λ items. entries_from column_entry_of config (field_path at key) [] items)
 ]
 
 abbrev pub transform_of : Config → List TransformDef → Members → List ℕ → Result TransformDef ConfigRefusal
@@ -209,8 +204,9 @@ transform_of config earlier entry at =
     and_then (ends_at config.groups entry at) (λ ends.
     and_then (way_at entry at) (λ way.
     and_then (policies_at entry at) (λ policies.
-    and_then (columns_at config entry at (codes "column")) (λ columns.
-    whole_transform config at (record {
+    and_then (columns_at config entry at (codes "column")) (λ entries.
+    and_then (whole_transform config at ends way policies entries) (λ columns.
+    Ok (record {
       id = id;
       source_group = ends.source;
       target_group = ends.target;
@@ -220,4 +216,4 @@ transform_of config earlier entry at =
       delete_action = policies.delete_action;
       column_policy = policies.column_policy;
       columns = columns;
-    })))))))
+    }))))))))

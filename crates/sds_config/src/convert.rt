@@ -1,4 +1,5 @@
 use sds_base::{List, Txt};
+use sds_expressions::{NodeWord, Pair, Piece};
 
 /// When a transform is made: as a batch is written, or as it is loaded.
 #[derive(Clone, Copy, Debug, PartialEq, Eq)]
@@ -52,6 +53,29 @@ pub struct TransformColumn {
     pub include_on: Txt,
     pub kind: ColumnKind,
     pub expression: Txt,
+    /// What the expression says.
+    pub parsed: ColumnExpression,
+}
+
+/// What the expression of a transform's column says (the SymmetricDS guide's chapter on transforms): all that computes the
+/// column's value, beside the value of its source.
+#[derive(Debug, Drop)]
+pub enum ColumnExpression {
+    /// Of `copy`, which takes the source's value as it is, and of `remove`, which makes no column: the text is not used.
+    Unused,
+    /// Of `const`: the text that the column gets, which is the whole expression.
+    Const(Txt),
+    /// Of `left`: how many characters it takes from the front of the source's text, 0 to 2,000.
+    Left(u32),
+    /// Of `substr`: the piece of the source's text that it takes.
+    Substr(Piece),
+    /// Of `valueMap`: texts of the source, each with the text that stands for it; the source `*` is that of every other text.
+    ValueMap(List<Pair>),
+    /// Of `variable`: the node whose id the column gets.
+    Variable(NodeWord),
+    /// Of `additive`: by how much the change of the source's number is multiplied before it is added to the column's, from
+    /// -1,000,000 to 1,000,000.
+    Additive(i32),
 }
 
 /// What becomes of a table's rows between two groups. The other side's tables and columns may have any names.

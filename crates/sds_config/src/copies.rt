@@ -1,6 +1,6 @@
 use crate::{
-    Action, Algorithm, ChannelDef, ColumnKind, ColumnPolicy, Config, ConflictDef, DeleteAction,
-    DetectType, LinkDef, Point, ResolveType, RouterDef, RouterExpression, RouterKind,
+    Action, Algorithm, ChannelDef, ColumnExpression, ColumnKind, ColumnPolicy, Config, ConflictDef,
+    DeleteAction, DetectType, LinkDef, Point, ResolveType, RouterDef, RouterExpression, RouterKind,
     TransformColumn, TransformDef, TriggerDef, TriggerRouterDef,
 };
 use sds_base::{NoMemory, Same, Twin};
@@ -201,6 +201,7 @@ impl Same for TransformColumn {
             && self.include_on.same(&other.include_on)
             && self.kind.same(&other.kind)
             && self.expression.same(&other.expression)
+            && self.parsed.same(&other.parsed)
     }
 }
 
@@ -213,6 +214,36 @@ impl Twin for TransformColumn {
             include_on: self.include_on.twin(alloc)?,
             kind: self.kind,
             expression: self.expression.twin(alloc)?,
+            parsed: self.parsed.twin(alloc)?,
+        })
+    }
+}
+
+impl Same for ColumnExpression {
+    fn same(&self, other: &ColumnExpression) -> bool {
+        match (self, other) {
+            (ColumnExpression::Unused, ColumnExpression::Unused) => true,
+            (ColumnExpression::Const(a), ColumnExpression::Const(b)) => a.same(b),
+            (ColumnExpression::Left(a), ColumnExpression::Left(b)) => a.same(b),
+            (ColumnExpression::Substr(a), ColumnExpression::Substr(b)) => a.same(b),
+            (ColumnExpression::ValueMap(a), ColumnExpression::ValueMap(b)) => a.same(b),
+            (ColumnExpression::Variable(a), ColumnExpression::Variable(b)) => a.same(b),
+            (ColumnExpression::Additive(a), ColumnExpression::Additive(b)) => a.same(b),
+            _ => false,
+        }
+    }
+}
+
+impl Twin for ColumnExpression {
+    fn twin(&self, alloc: Global) -> Result<ColumnExpression, NoMemory> {
+        Ok(match self {
+            ColumnExpression::Unused => ColumnExpression::Unused,
+            ColumnExpression::Const(text) => ColumnExpression::Const(text.twin(alloc)?),
+            ColumnExpression::Left(count) => ColumnExpression::Left(*count),
+            ColumnExpression::Substr(piece) => ColumnExpression::Substr(*piece),
+            ColumnExpression::ValueMap(pairs) => ColumnExpression::ValueMap(pairs.twin(alloc)?),
+            ColumnExpression::Variable(node) => ColumnExpression::Variable(*node),
+            ColumnExpression::Additive(factor) => ColumnExpression::Additive(*factor),
         })
     }
 }

@@ -7,7 +7,7 @@ use crate::fields::{
     field, field_path, flag_at, name_at, only_keys, text_at, text_or_empty, word_at,
 };
 use crate::sections::Entry;
-use crate::{ColumnKind, Config, ConfigRefusal, TransformColumn};
+use crate::{ColumnKind, Config, ConfigRefusal};
 use sds_base::Txt;
 use sds_value::is_name;
 use std::alloc::Global;
@@ -29,18 +29,29 @@ pub struct Formula {
     pub expression: Txt,
 }
 
-impl Entry for TransformColumn {
-    ghost use Rattle.sds_config.specs.TransformColumns.{transform_column_of};
+/// A column of a transform as its entry writes it. What its expression says is read once the transform is known as a whole.
+#[derive(Debug, Drop)]
+pub struct ColumnEntry {
+    pub target: Txt,
+    pub source: Txt,
+    pub pk: bool,
+    pub include_on: Txt,
+    pub kind: ColumnKind,
+    pub expression: Txt,
+}
 
-    ghost entry_of = { transform_column_of };
+impl Entry for ColumnEntry {
+    ghost use Rattle.sds_config.specs.TransformColumns.{column_entry_of};
+
+    ghost entry_of = { column_entry_of };
 
     fn read(
         alloc: Global,
         _config: &Config,
-        _earlier: &[TransformColumn],
+        _earlier: &[ColumnEntry],
         table: &Table,
         at: &str,
-    ) -> Result<TransformColumn, ConfigRefusal> {
+    ) -> Result<ColumnEntry, ConfigRefusal> {
         only_keys(
             alloc,
             table,
@@ -49,7 +60,7 @@ impl Entry for TransformColumn {
         )?;
         let making = making_at(alloc, table, at)?;
         let formula = formula_at(alloc, table, at)?;
-        Ok(TransformColumn {
+        Ok(ColumnEntry {
             target: making.target,
             source: making.source,
             pk: making.pk,

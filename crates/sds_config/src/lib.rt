@@ -4,6 +4,7 @@
 
 mod channels;
 mod columns;
+mod computed;
 mod config;
 mod conflicts;
 mod convert;
@@ -12,6 +13,7 @@ mod ends;
 mod fields;
 mod formulas;
 mod groups;
+mod laws;
 mod links;
 mod named;
 mod pairs;
@@ -24,15 +26,38 @@ mod sections;
 mod tables;
 #[cfg(test)]
 mod tests;
+#[cfg(test)]
+mod tests_columns;
+#[cfg(test)]
+mod tests_conflicts;
+#[cfg(test)]
+mod tests_faults;
+#[cfg(test)]
+mod tests_limits;
+#[cfg(test)]
+mod tests_order;
+#[cfg(test)]
+mod tests_printed;
+#[cfg(test)]
+mod tests_routers;
+#[cfg(test)]
+mod tests_sections;
+#[cfg(test)]
+mod tests_transforms;
+#[cfg(test)]
+mod tests_whole;
+#[cfg(test)]
+mod tests_words;
 mod transforms;
 mod triggers;
 mod words;
 
 pub use config::{Action, Algorithm, ChannelDef, Config, LinkDef};
 pub use convert::{
-    ColumnKind, ColumnPolicy, ConflictDef, DeleteAction, DetectType, Point, ResolveType,
-    TransformColumn, TransformDef,
+    ColumnExpression, ColumnKind, ColumnPolicy, ConflictDef, DeleteAction, DetectType, Point,
+    ResolveType, TransformColumn, TransformDef,
 };
+pub use laws::files_have_one_reading;
 pub use refusal::ConfigRefusal;
 pub use route::{RouterDef, RouterExpression, RouterKind, TriggerDef, TriggerRouterDef};
 pub use sds_value::{ColumnDef, TableDef};

@@ -1,17 +1,16 @@
-ghost use Rattle.std.specs.Prelude.{◌≡◌, ◌==◌, IfOk, nat_le, length, count_by};
+ghost use Rattle.std.specs.Prelude.{◌≡◌, ◌==◌, nat_le, length, count_by};
 ghost use Rattle.std.specs.List.{list_any, list_all};
-ghost use Rattle.std.specs.Str.{chars, encode_utf8_all};
+ghost use Rattle.std.specs.Str.{chars};
 ghost use Rattle.sds_config.specs.Transforms as wanted;
 
+use crate::formulas::ColumnEntry;
 use crate::named::place_of;
-use crate::{ColumnKind, ColumnPolicy, Point, TransformColumn, TransformDef};
-use sds_base::{NoMemory, Txt};
-use sds_expressions::{left_of, multiplier_of, substr_of, value_map_of, variable_of};
+use crate::{ColumnKind, ColumnPolicy, Point};
+use sds_base::Txt;
 use sds_value::{Kind, TableDef};
-use std::alloc::Global;
 
 /// Whether the columns that are named of the configuration's table are its columns.
-pub fn is_known(point: Point, table: &TableDef, columns: &[TransformColumn]) -> bool
+pub fn is_known(point: Point, table: &TableDef, columns: &[ColumnEntry]) -> bool
     ensures { result ≡ list_all (wanted.is_known point table.now) columns.now }
 {
     columns
@@ -19,7 +18,7 @@ pub fn is_known(point: Point, table: &TableDef, columns: &[TransformColumn]) -> 
         .all(|column| is_column_known(point, table, column))
 }
 
-fn is_column_known(point: Point, table: &TableDef, column: &TransformColumn) -> bool
+fn is_column_known(point: Point, table: &TableDef, column: &ColumnEntry) -> bool
     ensures { result ≡ wanted.is_known point table.now column.now }
 {
     match point {
@@ -45,64 +44,56 @@ pub fn has_column(table: &TableDef, name: &Txt) -> bool
         .any(|column| column.name == *name)
 }
 
-/// Whether the transform keeps the rules on its columns.
-pub fn is_sound(alloc: Global, table: &TableDef, transform: &TransformDef) -> Result<bool, NoMemory>
-    ensures { IfOk result (λ sound. sound ≡ wanted.is_sound table.now transform.now) }
-{
-    let columns = transform.columns.inner().as_slice();
-    let (point, policy) = (transform.point, transform.column_policy);
-    let each = are_columns_sound(alloc, point, policy, table, columns)?;
-    Ok(
-        each && are_keys_few(columns)
-            && has_keys(point, policy, table, columns)
-            && are_apart(columns),
-    )
-}
-
-fn are_columns_sound(
-    alloc: Global,
+/// Whether the columns of a transform keep the rules on columns, but for the forms of their expressions.
+pub fn is_sound(
     point: Point,
     policy: ColumnPolicy,
     table: &TableDef,
-    columns: &[TransformColumn],
-) -> Result<bool, NoMemory>
-    ensures { IfOk result (λ sound. sound ≡ list_all (wanted.is_column_sound point policy table.now) columns.now) }
+    columns: &[ColumnEntry],
+) -> bool
+    ensures { result ≡ wanted.is_sound point policy table.now columns.now }
 {
-    for column in columns {
-        if !is_column_sound(alloc, point, policy, table, column)? {
-            return Ok(false);
-        }
-    }
-    Ok(true)
+    are_columns_sound(point, policy, table, columns)
+        && are_keys_few(columns)
+        && has_keys(point, policy, table, columns)
+        && are_apart(columns)
 }
 
-fn are_keys_few(columns: &[TransformColumn]) -> bool
+fn are_columns_sound(
+    point: Point,
+    policy: ColumnPolicy,
+    table: &TableDef,
+    columns: &[ColumnEntry],
+) -> bool
+    ensures { result ≡ list_all (wanted.is_column_sound point policy table.now) columns.now }
+{
+    columns
+        .iter()
+        .all(|column| is_column_sound(point, policy, table, column))
+}
+
+fn are_keys_few(columns: &[ColumnEntry]) -> bool
     ensures { result ≡ nat_le (count_by (λ column. column.pk) columns.now) 32 }
 {
     columns.iter().filter(|column| column.pk).count() <= 32
 }
 
 fn is_column_sound(
-    alloc: Global,
     point: Point,
     policy: ColumnPolicy,
     table: &TableDef,
-    column: &TransformColumn,
-) -> Result<bool, NoMemory>
-    ensures { IfOk result (λ sound. sound ≡ wanted.is_column_sound point policy table.now column.now) }
+    column: &ColumnEntry,
+) -> bool
+    ensures { result ≡ wanted.is_column_sound point policy table.now column.now }
 {
-    let formed = is_formed(alloc, column.kind, &column.expression)?;
-    Ok(
-        are_events(column.include_on.as_str().as_bytes())
-            && suits_key(column)
-            && is_short(&column.expression)
-            && (!is_remove(column.kind) || is_implied(policy))
-            && (!is_additive(column.kind) || adds_well(point, table, column))
-            && formed,
-    )
+    are_events(column.include_on.as_str().as_bytes())
+        && suits_key(column)
+        && is_short(&column.expression)
+        && (!is_remove(column.kind) || is_implied(policy))
+        && (!is_additive(column.kind) || adds_well(point, table, column))
 }
 
-fn suits_key(column: &TransformColumn) -> bool
+fn suits_key(column: &ColumnEntry) -> bool
     ensures { result ≡ wanted.suits_key column.now }
 {
     !column.pk || (is_star(column.include_on.as_str().as_bytes()) && !is_remove(column.kind))
@@ -119,20 +110,6 @@ fn count_characters(text: &str) -> usize
     ensures { result ≡ length (chars text.now) }
 {
     text.chars().count()
-}
-
-fn is_formed(alloc: Global, kind: ColumnKind, expression: &Txt) -> Result<bool, NoMemory>
-    ensures { IfOk result (λ formed. formed ≡ wanted.is_formed kind (encode_utf8_all expression.now)) }
-{
-    let text = expression.as_str();
-    Ok(match kind {
-        ColumnKind::Copy | ColumnKind::Remove | ColumnKind::Const => true,
-        ColumnKind::Left => left_of(text).is_some(),
-        ColumnKind::Substr => substr_of(text).is_some(),
-        ColumnKind::ValueMap => value_map_of(alloc, text)?.is_some(),
-        ColumnKind::Variable => variable_of(text).is_some(),
-        ColumnKind::Additive => multiplier_of(text).is_some(),
-    })
 }
 
 fn is_remove(kind: ColumnKind) -> bool
@@ -159,7 +136,7 @@ fn is_load(point: Point) -> bool
     matches!(point, Point::Load)
 }
 
-fn adds_well(point: Point, table: &TableDef, column: &TransformColumn) -> bool
+fn adds_well(point: Point, table: &TableDef, column: &ColumnEntry) -> bool
     ensures { result ≡ wanted.adds_well point table.now column.now }
 {
     is_load(point) && !column.pk && takes_sums(table, &column.target)
@@ -190,12 +167,7 @@ fn is_key(table: &TableDef, place: usize) -> bool
     table.key.inner().iter().any(|key| *key as usize == place)
 }
 
-fn has_keys(
-    point: Point,
-    policy: ColumnPolicy,
-    table: &TableDef,
-    columns: &[TransformColumn],
-) -> bool
+fn has_keys(point: Point, policy: ColumnPolicy, table: &TableDef, columns: &[ColumnEntry]) -> bool
     ensures { result ≡ wanted.has_keys point policy table.now columns.now }
 {
     match point {
@@ -204,13 +176,13 @@ fn has_keys(
     }
 }
 
-fn has_pk(columns: &[TransformColumn]) -> bool
+fn has_pk(columns: &[ColumnEntry]) -> bool
     ensures { result ≡ list_any (λ column. column.pk) columns.now }
 {
     columns.iter().any(|column| column.pk)
 }
 
-fn keeps_key(table: &TableDef, columns: &[TransformColumn]) -> bool
+fn keeps_key(table: &TableDef, columns: &[ColumnEntry]) -> bool
     ensures { result ≡ list_any (wanted.key_stays table.now columns.now) table.now.key }
 {
     table
@@ -220,7 +192,7 @@ fn keeps_key(table: &TableDef, columns: &[TransformColumn]) -> bool
         .any(|place| key_stays(table, columns, *place))
 }
 
-fn key_stays(table: &TableDef, columns: &[TransformColumn], place: u32) -> bool
+fn key_stays(table: &TableDef, columns: &[ColumnEntry], place: u32) -> bool
     ensures { result ≡ wanted.key_stays table.now columns.now place }
 {
     match table.columns.inner().as_slice().get(place as usize) {
@@ -229,7 +201,7 @@ fn key_stays(table: &TableDef, columns: &[TransformColumn], place: u32) -> bool
     }
 }
 
-fn is_removed(columns: &[TransformColumn], name: &Txt) -> bool
+fn is_removed(columns: &[ColumnEntry], name: &Txt) -> bool
     ensures { result ≡ wanted.is_removed columns.now name.now }
 {
     columns
@@ -237,7 +209,7 @@ fn is_removed(columns: &[TransformColumn], name: &Txt) -> bool
         .any(|column| is_remove(column.kind) && column.target == *name)
 }
 
-fn are_apart(columns: &[TransformColumn]) -> bool
+fn are_apart(columns: &[ColumnEntry]) -> bool
     ensures { result ≡ wanted.are_apart columns.now }
 {
     for (place, column) in columns.iter().enumerate() {
@@ -248,13 +220,13 @@ fn are_apart(columns: &[TransformColumn]) -> bool
     true
 }
 
-fn clashes(column: &TransformColumn, others: &[TransformColumn]) -> bool
+fn clashes(column: &ColumnEntry, others: &[ColumnEntry]) -> bool
     ensures { result ≡ list_any (wanted.clash column.now) others.now }
 {
     others.iter().any(|other| clash(column, other))
 }
 
-fn clash(column: &TransformColumn, other: &TransformColumn) -> bool
+fn clash(column: &ColumnEntry, other: &ColumnEntry) -> bool
     ensures { result ≡ wanted.clash column.now other.now }
 {
     other.target == column.target

@@ -5,8 +5,10 @@ ghost use Rattle.sds_config.specs.Links.{leads};
 ghost use Rattle.sds_config.specs.Refusals.{Answers};
 ghost use Rattle.sds_config.specs.Transforms as wanted;
 
-use crate::ends::ends_at;
+use crate::computed::columns_of;
+use crate::ends::{Ends, ends_at};
 use crate::fields::{field, field_text, id_at, name_at, only_keys, word_at, word_or};
+use crate::formulas::ColumnEntry;
 use crate::links::leads;
 use crate::named::place_of;
 use crate::rules::{is_known, is_sound};
@@ -66,8 +68,9 @@ impl Entry for TransformDef {
         let ends = ends_at(alloc, &config.groups, table, at)?;
         let way = way_at(alloc, table, at)?;
         let policies = policies_at(alloc, table, at)?;
-        let columns = columns_at(alloc, config, table, at, "column")?;
-        let transform = TransformDef {
+        let entries = columns_at(alloc, config, table, at, "column")?;
+        let columns = whole_transform(alloc, config, at, &ends, &way, policies, entries)?;
+        Ok(TransformDef {
             id,
             source_group: ends.source,
             target_group: ends.target,
@@ -77,8 +80,7 @@ impl Entry for TransformDef {
             delete_action: policies.delete_action,
             column_policy: policies.column_policy,
             columns,
-        };
-        whole_transform(alloc, config, at, transform)
+        })
     }
 }
 
@@ -112,7 +114,7 @@ fn columns_at(
     table: &Table,
     at: &str,
     key: &str,
-) -> Result<List<TransformColumn>, ConfigRefusal>
+) -> Result<List<ColumnEntry>, ConfigRefusal>
     requires { IsWithinLimits config.now }
     ensures { Answers result (wanted.columns_at config.now (table_view table.now) at.now key.now) }
 {
@@ -127,61 +129,64 @@ fn columns_at(
     }
 }
 
+/// The columns of a transform, which is judged as a whole.
 fn whole_transform(
     alloc: Global,
     config: &Config,
     at: &str,
-    transform: TransformDef,
-) -> Result<TransformDef, ConfigRefusal>
-    ensures { Answers result (wanted.whole_transform config.now at.now transform) }
-{
-    if !is_linked(config, &transform) {
-        return Err(ConfigRefusal::NoLink(Txt::copied(alloc, at)?));
-    }
-    let table = known_table(config, &transform);
-    judged(alloc, at, table, transform)
-}
-
-fn is_linked(config: &Config, transform: &TransformDef) -> bool
-    ensures { result ≡ leads config.now.links transform.now.source_group transform.now.target_group }
+    ends: &Ends,
+    way: &Way,
+    policies: Policies,
+    entries: List<ColumnEntry>,
+) -> Result<List<TransformColumn>, ConfigRefusal>
+    ensures { Answers result (wanted.whole_transform config.now at.now ends.now way.now policies entries) }
 {
     let links = config.links.inner().as_slice();
-    leads(links, transform.source_group, transform.target_group)
+    if !leads(links, ends.source, ends.target) {
+        return Err(ConfigRefusal::NoLink(Txt::copied(alloc, at)?));
+    }
+    let table = known_table(config, way);
+    judged(alloc, at, table, way.point, policies.column_policy, entries)
 }
 
 /// The table of the configuration that the transform makes rows of or for.
-fn known_table<'a>(config: &'a Config, transform: &TransformDef) -> Option<&'a TableDef>
-    ensures { option_copied result ≡ wanted.known_table config.now transform.now }
+fn known_table<'a>(config: &'a Config, way: &Way) -> Option<&'a TableDef>
+    ensures { option_copied result ≡ wanted.known_table config.now way.now }
 {
-    table_named(config.tables.inner().as_slice(), own_table(transform))
+    table_named(config.tables.inner().as_slice(), own_table(way))
 }
 
 fn judged(
     alloc: Global,
     at: &str,
     table: Option<&TableDef>,
-    transform: TransformDef,
-) -> Result<TransformDef, ConfigRefusal>
-    ensures { Answers result (wanted.judged at.now (option_copied table.entry) transform) }
+    point: Point,
+    policy: ColumnPolicy,
+    entries: List<ColumnEntry>,
+) -> Result<List<TransformColumn>, ConfigRefusal>
+    ensures { Answers result (wanted.judged at.now (option_copied table.entry) point policy entries) }
 {
     let Some(table) = table else {
         return Err(ConfigRefusal::UnknownName(Txt::copied(alloc, at)?));
     };
-    if !is_known(transform.point, table, transform.columns.inner().as_slice()) {
+    if !is_known(point, table, entries.inner().as_slice()) {
         return Err(ConfigRefusal::UnknownName(Txt::copied(alloc, at)?));
     }
-    if !is_sound(alloc, table, &transform)? {
+    if !is_sound(point, policy, table, entries.inner().as_slice()) {
         return Err(ConfigRefusal::BadSetting(Txt::copied(alloc, at)?));
     }
-    Ok(transform)
+    match columns_of(alloc, entries)? {
+        None => Err(ConfigRefusal::BadSetting(Txt::copied(alloc, at)?)),
+        Some(columns) => Ok(columns),
+    }
 }
 
-fn own_table(transform: &TransformDef) -> &Txt
-    ensures { result.now ≡ wanted.own_table transform.now }
+fn own_table(way: &Way) -> &Txt
+    ensures { result.now ≡ wanted.own_table way.now }
 {
-    match transform.point {
-        Point::Extract => &transform.source_table,
-        Point::Load => &transform.target_table,
+    match way.point {
+        Point::Extract => &way.source_table,
+        Point::Load => &way.target_table,
     }
 }
 

@@ -4,3 +4,4 @@ pub mod Computed
 pub mod ColumnTests
 pub mod Lookups
 pub mod Subselects
+pub mod BadPlaces

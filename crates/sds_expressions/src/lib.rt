@@ -3,6 +3,7 @@
 #![tactic(auto)]
 
 mod computed;
+mod laws;
 mod letters;
 mod lookup;
 mod lookup_read;
@@ -18,6 +19,7 @@ mod tests_read;
 pub use computed::{
     NodeWord, Pair, Piece, left_of, multiplier_of, substr_of, value_map_of, variable_of,
 };
+pub use laws::bad_places_come_first;
 pub use lookup::Lookup;
 pub use lookup_read::lookup_text;
 pub use numbers::plain_number;
