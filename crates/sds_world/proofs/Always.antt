@@ -1,7 +1,11 @@
 -- After each event of a scenario its nodes are in step.
-use Rattle.std.proofs.Common.{◌≡◌, ℕ, ◌+◌, zero, suc, Bool, true, false, ◌==◌, List, [], ◌∷◌, length, map, take, All, Option, None, Some, refl, sym, subst, arith}
+use Rattle.std.proofs.Common.{◌≡◌, ℕ, ◌+◌, zero, suc, Bool, true, false, not, ◌&&◌, ◌==◌, List, [], ◌∷◌, length, map, take, All, Option, None, Some, refl, sym, subst, arith}
 use Rattle.std.specs.Prelude.{IfSome}
 use Rattle.std.proofs.lemmas.List.Elements.{All-nil, All-cons}
+use Rattle.sds_line.specs.declared.line.Line.{Line as TextLine}
+use Rattle.sds_line.specs.Splitting.{lines_in}
+use Rattle.sds_line.specs.Written.{are_fields}
+use Rattle.sds_line.proofs.Scalars.{lines_are_of_characters}
 use Rattle.sds_value.specs.declared.row.Peer.{Peer}
 use Rattle.sds_spec.specs.declared.event.WorldEvent.{WorldEvent}
 use Rattle.sds_spec.specs.Acts.{History}
@@ -13,12 +17,10 @@ use Rattle.sds_spec.specs.World.{World, empty_world}
 use Rattle.sds_world.specs.declared.line.Line.{Line}
 use Rattle.sds_world.specs.declared.place.Place.{Place}
 use Rattle.sds_world.specs.Looking.{completed, place_of}
-use Rattle.sds_world.specs.Played.{judged, is_long, most_bytes, without_last, world_by, world_of, last_in, settled_in, may_stand, onto_events, events_from, events_of}
+use Rattle.sds_world.specs.Played.{is_long, looked_at, split_of, said, world_by, world_of, last_in, settled_in, may_stand, onto_events, events_from, events_of}
 use Rattle.sds_world.specs.Playing.{beginning}
-use Rattle.sds_world.specs.Scenario.{line_of}
 use Rattle.sds_world.specs.Shapes.{Shaped}
 use Rattle.sds_world.specs.Sound.{IsSoundLine}
-use Rattle.sds_world.specs.Splitting.{lines_of}
 use Rattle.sds_world.proofs.Shaping.{shaped_next, shaped_first}
 use Rattle.sds_world.proofs.Soundness.{line-sound}
 use Rattle.sds_world.proofs.Stepping.{pair_facts, by_four, early}
@@ -82,13 +84,12 @@ abbrev AreSound : List Line → Type 0
 AreSound [] = Unit {0}
 AreSound (line ∷ lines) = IsSoundLine line × AreSound lines
 
-lines_sound : (lines : List (List ℕ)) → AreSound (map line_of lines)
-lines_sound [] = tt
-lines_sound (line ∷ lines) = (line-sound line, lines_sound lines)
+lines_sound : (lines : List TextLine) → All (λ (line : TextLine). are_fields line.fields ≡ true) lines → AreSound (map said lines)
+lines_sound [] are = tt
+lines_sound (line ∷ lines) are = (line-sound line.fields (are 0 line (omega arith)), lines_sound lines (λ k d inside. are (suc k) d (omega (arith, inside))))
 
-judged_sound : (is_over : Bool) (text : List ℕ) → AreSound (judged is_over text)
-judged_sound true text = lines_sound (without_last (lines_of text))
-judged_sound false text = lines_sound (lines_of text)
+split_sound : (text : List ℕ) → AreSound (map said (split_of text).lines)
+split_sound text = lines_sound (split_of text).lines (lines_are_of_characters (not (is_long text)) (looked_at text))
 
 abbrev Always : (World → Type 0) → World → List WorldEvent → Type 0
 Always P w events = (n : ℕ) → P (world_after one w (take n events))
@@ -103,36 +104,39 @@ one_event P w None events is on (suc n) = on (suc n)
 one_event P w (Some event) events is on zero = is
 one_event P w (Some event) events is on (suc n) = on n
 
-by_standing : (P : World → Type 0) (older lines : List Line) (line : Line) (t : Bool) → may_stand older line ≡ t → P (world_of older)
-    → (may_stand older line ≡ true → Always P (world_of (line ∷ older)) (events_from (line ∷ older) lines)) → Always P (world_of older) (events_from older (line ∷ lines))
-by_standing P older lines line true is here on =
-    subst (λ (events : List WorldEvent). Always P (world_of older) events) (sym (stood is)) (one_event P (world_of older) (completed (place_of older) line) (events_from (line ∷ older) lines) here (on is)) where
-      stood : may_stand older line ≡ true → events_from older (line ∷ lines) ≡ onto_events (completed (place_of older) line) (events_from (line ∷ older) lines)
+by_standing : (P : World → Type 0) (is_built : Bool) (older lines : List Line) (line : Line) (t : Bool) → (is_built && may_stand older line) ≡ t → P (world_of older)
+    → ((is_built && may_stand older line) ≡ true → Always P (world_of (line ∷ older)) (events_from is_built (line ∷ older) lines)) → Always P (world_of older) (events_from is_built older (line ∷ lines))
+by_standing P is_built older lines line true is here on =
+    subst (λ (events : List WorldEvent). Always P (world_of older) events) (sym (stood is)) (one_event P (world_of older) (completed (place_of older) line) (events_from is_built (line ∷ older) lines) here (on is)) where
+      stood : (is_built && may_stand older line) ≡ true → events_from is_built older (line ∷ lines) ≡ onto_events (completed (place_of older) line) (events_from is_built (line ∷ older) lines)
       stood is = rw is refl
-by_standing P older lines line false is here on =
+by_standing P is_built older lines line false is here on =
     subst (λ (events : List WorldEvent). Always P (world_of older) events) (sym (stopped is)) (no_events P (world_of older) here) where
-      stopped : may_stand older line ≡ false → events_from older (line ∷ lines) ≡ []
+      stopped : (is_built && may_stand older line) ≡ false → events_from is_built older (line ∷ lines) ≡ []
       stopped is = rw is refl
+
+right_of : (a b : Bool) → (a && b) ≡ true → b ≡ true
+right_of true b is = is
+right_of false b is = absurd (cc)
 
 -- what holds of every shape holds after each event of lines
 abbrev pub OfShapes : (World → Type 0) → Type 0
 OfShapes P = (place : Place) (w : World) (count : ℕ) → Shaped place w count → P w
 
-always_from : (P : World → Type 0) → OfShapes P → (older lines : List Line) → AreSound lines → Shaped (place_of older) (world_of older) (length older) → Always P (world_of older) (events_from older lines)
-always_from P holds older [] sound shaped = no_events P (world_of older) (holds (place_of older) (world_of older) (length older) shaped)
-always_from P holds older (line ∷ lines) sound shaped =
-    by_standing P older lines line (may_stand older line) refl (holds (place_of older) (world_of older) (length older) shaped)
-    (λ is. always_from P holds (line ∷ older) lines sound.1
-    (shaped_next (place_of older) (world_of older) (length older) (last_in (world_of older) line) (settled_in (world_of older)) line shaped sound.0 is))
+always_from : (P : World → Type 0) → OfShapes P → (is_built : Bool) (older lines : List Line) → AreSound lines → Shaped (place_of older) (world_of older) (length older) → Always P (world_of older) (events_from is_built older lines)
+always_from P holds is_built older [] sound shaped = no_events P (world_of older) (holds (place_of older) (world_of older) (length older) shaped)
+always_from P holds is_built older (line ∷ lines) sound shaped =
+    by_standing P is_built older lines line (is_built && may_stand older line) refl (holds (place_of older) (world_of older) (length older) shaped)
+    (λ is. always_from P holds is_built (line ∷ older) lines sound.1
+    (shaped_next (place_of older) (world_of older) (length older) (last_in (world_of older) line) (settled_in (world_of older)) line shaped sound.0 (right_of is_built (may_stand older line) is)))
 
-pub shaped_always : (P : World → Type 0) → OfShapes P → (text : List ℕ) (n : ℕ) → P (world_after one empty_world (take n (events_of text)))
-shaped_always P holds text n =
-    always_from P holds [] (judged (is_long text) (take (most_bytes + 1) text)) (judged_sound (is_long text) (take (most_bytes + 1) text)) shaped_first n
+pub shaped_always : (P : World → Type 0) → OfShapes P → (is_built : Bool) (text : List ℕ) (n : ℕ) → P (world_after one empty_world (take n (events_of is_built text)))
+shaped_always P holds is_built text n = always_from P holds is_built [] (map said (split_of text).lines) (split_sound text) shaped_first n
 
-pub always : (text : List ℕ) (n : ℕ) → InStep one (world_after one empty_world (take n (events_of text)))
-always text n = shaped_always (InStep one) shaped_in_step text n
+pub always : (is_built : Bool) (text : List ℕ) (n : ℕ) → InStep one (world_after one empty_world (take n (events_of is_built text)))
+always is_built text n = shaped_always (InStep one) shaped_in_step is_built text n
 
 -- whatever text is told
-pub always_told : (o : Option (List ℕ)) → IfSome o (λ (text : List ℕ). (n : ℕ) → InStep one (world_after one empty_world (take n (events_of text))))
+pub always_told : (o : Option (List ℕ)) → IfSome o (λ (text : List ℕ). (is_built : Bool) (n : ℕ) → InStep one (world_after one empty_world (take n (events_of is_built text))))
 always_told None = tt
-always_told (Some text) = always text
+always_told (Some text) = λ is_built n. always is_built text n

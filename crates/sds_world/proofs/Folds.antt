@@ -92,10 +92,10 @@ folds_by place w count shaped =
     record { folds = all_folded place w count shaped; fronts = lanes_front w is; from_nodes = is.from_nodes }
 
 pub always_folds : (text : List ℕ) (n : ℕ) → TablesAreFolds (world_at text n)
-always_folds text n = shaped_always TablesAreFolds folds_by text n
+always_folds text n = shaped_always TablesAreFolds folds_by true text n
 
 once_by : (place : Place) (w : World) (count : ℕ) → Shaped place w count → GoesOnce w
 once_by place w count shaped = let is : InStep one w = shaped_in_step place w count shaped in record { once = is.routed; to_peers = is.to_peers }
 
 pub always_once : (text : List ℕ) (n : ℕ) → GoesOnce (world_at text n)
-always_once text n = shaped_always GoesOnce once_by text n
+always_once text n = shaped_always GoesOnce once_by true text n

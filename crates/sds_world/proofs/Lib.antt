@@ -1,6 +1,5 @@
 pub mod Always
 pub mod Answering
-pub mod Cuts
 pub mod Folds
 pub mod Fronts
 pub mod Joined
@@ -11,9 +10,7 @@ pub mod Numbers
 pub mod Plain
 pub mod Staged
 pub mod Pushing
-pub mod Spacing
 pub mod Shaping
-pub mod Utf8Fields
 pub mod Stepping
 pub mod Turning
 pub mod Soundness

@@ -1,14 +1,17 @@
 -- Numbers of 1 to 19 decimal digits, and lists of four fields.
-use Rattle.std.proofs.Common.{◌≡◌, ℕ, ◌<◌, ◌≤◌, ◌^◌, Bool, true, false, nat_le, List, [], ◌∷◌, length, refl, sym, ap, ◌∙◌, arith, rules, Option, None, Result, Ok, Err, MatchOption, Bor}
+use Rattle.std.proofs.Common.{◌≡◌, ℕ, ◌<◌, ◌≤◌, ◌^◌, Bool, true, false, nat_le, List, [], ◌∷◌, length, refl, sym, ap, ◌∙◌, arith, rules, Option, None, Some, Result, Ok, Err, MatchOption, subst}
 use Rattle.std.proofs.lemmas.Bool.Decides.{nat_tests}
+use Rattle.std.proofs.lemmas.Str.{chars-IsAscii}
 use Rattle.std.proofs.lemmas.Str.Parse.{IsNumeralModel, numerals_by_weight, parse_digits, digits_value_short}
 use Rattle.std.specs.Char.{is_ascii_digit}
 use Rattle.std.specs.List.{list_all}
 use Rattle.std.specs.Result.{result_ok}
+use Rattle.std.specs.Str.{IsAscii, IsUtf8, chars}
 use Rattle.std.specs.Str.Parse.{ParsesUnsigned}
+use Rattle.sds_value.specs.declared.row.Field.{Field}
 use Rattle.sds_value.specs.Values.{digits_value}
+use Rattle.sds_value.proofs.Characters.{all_small, digit_small, right_true, same_test}
 use Rattle.sds_world.specs.Scenario.{is_number, given_of}
-use Rattle.sds_world.specs.Words.{texts}
 
 own : IsNumeralModel (λ ds. list_all is_ascii_digit ds ≡ true) digits_value
 own = numerals_by_weight _ (search rules) digits_value (search rules)
@@ -40,8 +43,18 @@ read_digits text bytes r o t read is same answer holds few =
     let short : length text ≤ 19 = rw same at few in
     rw is (parsed text r read digits short)
 
+-- of a text it reads the number that the text's characters write
+number_ascii : (xs : List ℕ) → is_number xs ≡ true → IsAscii xs
+number_ascii xs is = all_small is_ascii_digit digit_small xs (right_true (nat_le (length xs) 19) _ (right_true (nat_le 1 (length xs)) _ is))
+
+pub of_characters : (bytes text : List ℕ) (o : Option ℕ) → IsUtf8 bytes → chars bytes ≡ text → MatchOption o (is_number bytes ≡ false) (λ n. (is_number bytes ≡ true) × (n ≡ digits_value bytes))
+    → MatchOption o (is_number text ≡ false) (λ n. (is_number text ≡ true) × (n ≡ digits_value text))
+of_characters bytes text None utf8 is read = ap is_number (sym is) ∙ (sym (same_test is_number number_ascii bytes utf8) ∙ read)
+of_characters bytes text (Some n) utf8 is read =
+    let same : bytes ≡ text = sym (chars-IsAscii bytes (number_ascii bytes read.0)) ∙ is in subst (λ (l : List ℕ). (is_number l ≡ true) × (n ≡ digits_value l)) same read
+
 -- only four fields are a line with fields of its own
-pub not_four : (fields : List (Bor (List ℕ))) → (length fields ≡ 4 → ⊥) → None ≡ given_of (texts fields)
+pub not_four : (fields : List Field) → (length fields ≡ 4 → ⊥) → None ≡ given_of fields
 not_four [] other = refl
 not_four (a ∷ []) other = refl
 not_four (a ∷ b ∷ []) other = refl

@@ -13,7 +13,7 @@ use Rattle.sds_spec.specs.One.{one}
 use Rattle.sds_spec.specs.World.{Message, World, empty_world}
 use Rattle.sds_laws.specs.Pairs.{pair_world, IsPairWorld, MayHappen, is_written_row}
 use Rattle.sds_world.specs.declared.line.Line.{Line}
-use Rattle.sds_world.specs.declared.line.Line.TheVariants.{Skip, Opening, Write, Row, End, Route, Push, Show, Other}
+use Rattle.sds_world.specs.declared.line.Line.TheVariants.{Opening, Write, Row, End, Route, Push, Show, Other}
 use Rattle.sds_world.specs.declared.line.Opening.TheVariants.{Corp, Store, Open, Register}
 use Rattle.sds_world.specs.declared.place.Draft.{Draft}
 use Rattle.sds_world.specs.declared.place.Place.{Place}
@@ -195,7 +195,6 @@ write_ended place w count (Some draft) is shaped sound open_now =
 
 pub shaped_next : (place : Place) (w : World) (count last : ℕ) (settled : Bool) (line : Line) → Shaped place w count → IsSoundLine line → fits place last settled line ≡ true
     → Shaped (behind place line) (world_by (completed place line) w) (suc count)
-shaped_next place w count last settled Skip shaped sound is = same_world place place w count shaped refl shaped.open_write
 shaped_next place w count last settled (Opening Corp) shaped sound is = let here : (place.openings ≡ 0) × (place.draft ≡ None) = at_order place 0 is in first_world place w count shaped here.0 here.1
 shaped_next place w count last settled (Opening Store) shaped sound is = let here : (place.openings ≡ 1) × (place.draft ≡ None) = at_order place 1 is in second_world place w count shaped here.0 here.1
 shaped_next place w count last settled (Opening Open) shaped sound is = let here : (place.openings ≡ 2) × (place.draft ≡ None) = at_order place 2 is in third_world place w count shaped here.0 here.1

@@ -18,7 +18,7 @@ use Rattle.sds_spec.specs.World.{World, empty_world}
 use Rattle.sds_laws.specs.Pairs.{IsPairWorld, PairFacts, is_written_row}
 use Rattle.sds_laws.proofs.PairEvents.{stay_in_step, sender_found, receiver_found}
 use Rattle.sds_world.specs.declared.line.Line.{Line}
-use Rattle.sds_world.specs.declared.line.Line.TheVariants.{Skip, Opening, Write, Row, End, Route, Push, Show, Other}
+use Rattle.sds_world.specs.declared.line.Line.TheVariants.{Opening, Write, Row, End, Route, Push, Show, Other}
 use Rattle.sds_world.specs.declared.line.Opening.TheVariants.{Corp, Store, Open, Register}
 use Rattle.sds_world.specs.declared.nodes.Named.{Named}
 use Rattle.sds_world.specs.declared.place.Draft.{Draft}
@@ -90,7 +90,6 @@ settled_is older place stage b =
     (λ is. met_settled stage.nodes.items (world_of older) (pair_facts (world_of older) (b.shaped.met is)) (b.plays.stands is).nodes)
 
 said_is : (older : List Line) (place : Place) (stage : Stage) (line : Line) → Behind older place stage → last_said stage.nodes.items line ≡ last_in (world_of older) line
-said_is older place stage Skip b = refl
 said_is older place stage (Opening which) b = refl
 said_is older place stage (Write writer number) b = last_is older place stage writer b
 said_is older place stage (Row row) b = refl
@@ -140,7 +139,6 @@ may_write older place stage (Some draft) e b sound is =
 
 pub may_play : (older : List Line) (place : Place) (stage : Stage) (line : Line) (last : ℕ) (settled : Bool) (event : WorldEvent) → Behind older place stage → IsSoundLine line → length older < 2 ^ 62
     → fits place last settled line ≡ true → Some event ≡ completed place line → MayPlay event stage (world_of older)
-may_play older place stage Skip last settled e b sound few fit is = no_event (MayPlay e stage (world_of older)) e is
 may_play older place stage (Opening Corp) last settled e b sound few fit is =
     let here : place.openings ≡ 0 = (at_order place 0 fit).0 in
     let same : event.Node corp ≡ e = cc in subst (λ (x : WorldEvent). MayPlay x stage (world_of older)) same (b.plays.waits (omega (arith, here)))
@@ -204,7 +202,6 @@ has_written place stage w (Some draft) e sound is played =
 
 has_played : (place : Place) (stage : Stage) (w : World) (count : ℕ) (line : Line) (last : ℕ) (settled : Bool) (event : WorldEvent) → Shaped place w count → fits place last settled line ≡ true
     → Some event ≡ completed place line → HasPlayed event stage (happens one w event) → PlaysAt (behind place line) stage (happens one w event)
-has_played place stage w count Skip last settled e shaped fit is played = no_event (PlaysAt place stage (happens one w e)) e is
 has_played place stage w count (Opening Corp) last settled e shaped fit is played =
     let here : place.openings ≡ 0 = (at_order place 0 fit).0 in
     let same : event.Node corp ≡ e = cc in
@@ -247,7 +244,6 @@ has_played place stage w count Other last settled e shaped fit is played = no_ev
 
 -- WHERE NOTHING HAPPENS the openings stay.
 same_openings : (place : Place) (line : Line) (last : ℕ) (settled : Bool) → fits place last settled line ≡ true → None ≡ completed place line → (behind place line).openings ≡ place.openings
-same_openings place Skip last settled fit is = refl
 same_openings place (Opening which) last settled fit is = absurd (cc)
 same_openings place (Write writer number) last settled fit is = refl
 same_openings place (Row row) last settled fit is = refl

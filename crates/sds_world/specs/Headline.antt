@@ -1,6 +1,6 @@
 -- What holds of every scenario, in the trade's words: each routed change stands in exactly the batches that its routers named, and every node's tables are
 -- what its accepted writes and a front of each sender's batches leave, each once, in the order of the node's commits.
-use Rattle.std.specs.Prelude.{◌≡◌, ℕ, ◌&&◌, ◌==◌, if◌then◌else◌, List, [], ◌∷◌, ◌++◌, map, take, All}
+use Rattle.std.specs.Prelude.{◌≡◌, ℕ, true, ◌&&◌, ◌==◌, if◌then◌else◌, List, [], ◌∷◌, ◌++◌, map, take, All}
 use Rattle.std.specs.Str.{bytes_eq}
 use Rattle.sds_spec.specs.declared.row.LoadRow.{LoadRow}
 use Rattle.sds_spec.specs.declared.row.TableRow.{TableRow}
@@ -19,7 +19,7 @@ use Rattle.sds_world.specs.Played.{events_of}
 
 -- the world after the first so many events of a scenario
 abbrev pub world_at : List ℕ → ℕ → World
-world_at text n = world_after one empty_world (take n (events_of text))
+world_at text n = world_after one empty_world (take n (events_of true text))
 
 -- what changes a node's tables: a write that was accepted, or a batch of a lane that was loaded
 pub data Change : Type 0 where

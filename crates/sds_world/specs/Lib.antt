@@ -1,4 +1,5 @@
 pub mod Acking
+pub mod Games
 pub mod Headline
 pub mod Looking
 pub mod Played
@@ -7,5 +8,4 @@ pub mod Scenario
 pub mod Settling
 pub mod Shapes
 pub mod Sound
-pub mod Splitting
 pub mod Words

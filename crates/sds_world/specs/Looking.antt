@@ -6,7 +6,7 @@ use Rattle.sds_spec.specs.declared.event.WorldEvent.{WorldEvent}
 use Rattle.sds_spec.specs.declared.row.TxRow.{TxRow}
 use Rattle.sds_spec.specs.declared.event.WorldEvent.TheVariants as event
 use Rattle.sds_world.specs.declared.line.Line.{Line}
-use Rattle.sds_world.specs.declared.line.Line.TheVariants.{Skip, Opening, Write, Row, End, Route, Push, Show, Other}
+use Rattle.sds_world.specs.declared.line.Line.TheVariants.{Opening, Write, Row, End, Route, Push, Show, Other}
 use Rattle.sds_world.specs.declared.line.Opening as opening
 use Rattle.sds_world.specs.declared.line.Opening.TheVariants.{Corp, Store, Open, Register}
 use Rattle.sds_world.specs.declared.place.Draft.{Draft}
@@ -26,7 +26,6 @@ is_ready place = place.openings == 4 && is_none place.draft
 -- whether the line may stand at this place: `last` is the number of its writer's last accepted write, 0 without one,
 -- and `settled` whether every batch made so far is loaded
 abbrev pub fits : Place → ℕ → Bool → Line → Bool
-fits place last settled Skip = true
 fits place last settled (Opening which) = place.openings == order_of which && is_none place.draft
 fits place last settled (Write writer number) = is_ready place && number == last + 1
 fits place last settled (Row row) = is_some place.draft && nat_lt place.rows 10000

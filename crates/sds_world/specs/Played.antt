@@ -1,7 +1,10 @@
 -- What a scenario's text makes happen and prints, and the first line that it may not have.
--- A line is judged by the lines before it, the newest first, and by the world that these have made.
-use Rattle.std.specs.Prelude.{◌≡◌, ◌≢◌, ℕ, ◌+◌, ◌≤◌, ◌^◌, Bool, true, nat_lt, is_some, if◌then◌else◌, List, [], ◌∷◌, length, map, take, Option, None, Some, Result, Ok, Err}
+-- A line is judged by what the lines before it say, the newest first, and by the world that these have made. Lines are built under the one configuration alone.
+use Rattle.std.specs.Prelude.{◌≡◌, ◌≢◌, ℕ, ◌-◌, ◌≤◌, ◌^◌, ◌⊎◌, Bool, true, not, ◌&&◌, ◌==◌, nat_lt, is_some, if◌then◌else◌, List, [], ◌∷◌, length, map, take, Option, None, Some, Result, Ok, Err}
+use Rattle.std.specs.List.{suffix_len}
 use Rattle.std.specs.Option.{option_map_or}
+use Rattle.sds_line.specs.declared.line.Line.{Line as TextLine}
+use Rattle.sds_line.specs.Splitting.{Split, lines_in}
 use Rattle.sds_outside.specs.Told.{after_told}
 use Rattle.sds_spec.specs.declared.event.WorldEvent.{WorldEvent}
 use Rattle.sds_spec.specs.Acts.{History}
@@ -19,26 +22,29 @@ use Rattle.sds_world.specs.declared.rehearsal.WorldRefusal.{WorldRefusal}
 use Rattle.sds_world.specs.declared.rehearsal.WorldRefusal.TheVariants as world_refusal
 use Rattle.sds_world.specs.Looking.{fits, completed, place_of, corp}
 use Rattle.sds_world.specs.Scenario.{line_of}
-use Rattle.sds_world.specs.Splitting.{lines_of}
 
--- LINES. The most bytes of a scenario: 1 GiB.
+-- TEXT. The most bytes of a scenario: 1 GiB.
 abbrev pub most_bytes : ℕ
 most_bytes = 2 ^ 30
 
 abbrev pub is_long : List ℕ → Bool
 is_long text = nat_lt most_bytes (length text)
 
-abbrev pub without_last : List (List ℕ) → List (List ℕ)
-without_last [] = []
-without_last (line ∷ []) = []
-without_last (line ∷ (next ∷ lines)) = line ∷ without_last (next ∷ lines)
+-- up to the last line feed, and with it
+abbrev pub through_last_feed : List ℕ → List ℕ
+through_last_feed text = take (length text - suffix_len (λ b. not (b == 10)) text) text
 
--- the lines of a text that are looked at: all, or, where it is a front that ends with the first byte too many, all but the one that holds that byte
-abbrev pub judged : Bool → List ℕ → List Line
-judged is_over text = map line_of (if is_over then without_last (lines_of text) else lines_of text)
+-- what is looked at of a text: all of it, or, of one that is too long, what stands before the line that holds the first byte too many
+abbrev pub looked_at : List ℕ → List ℕ
+looked_at text = if is_long text then through_last_feed (take most_bytes text) else text
 
-abbrev pub lines_in : List ℕ → List Line
-lines_in text = judged (is_long text) (take (most_bytes + 1) text)
+-- the lines of it that have fields, each with its number, and why it is not read on
+abbrev pub split_of : List ℕ → Split
+split_of text = lines_in (not (is_long text)) (looked_at text)
+
+-- what a line says
+abbrev pub said : TextLine → Line
+said line = line_of line.fields
 
 -- THE WORLD that lines have made
 abbrev pub world_by : Option WorldEvent → World → World
@@ -68,29 +74,35 @@ abbrev pub onto_events : Option WorldEvent → List WorldEvent → List WorldEve
 onto_events None events = events
 onto_events (Some event) events = event ∷ events
 
-abbrev pub events_from : List Line → List Line → List WorldEvent
-events_from older [] = []
-events_from older (line ∷ lines) = if may_stand older line then onto_events (completed (place_of older) line) (events_from (line ∷ older) lines) else []
+abbrev pub events_from : Bool → List Line → List Line → List WorldEvent
+events_from is_built older [] = []
+events_from is_built older (line ∷ lines) =
+    if is_built && may_stand older line then onto_events (completed (place_of older) line) (events_from is_built (line ∷ older) lines) else []
 
-abbrev pub events_of : List ℕ → List WorldEvent
-events_of text = events_from [] (lines_in text)
+abbrev pub events_of : Bool → List ℕ → List WorldEvent
+events_of is_built text = events_from is_built [] (map said (split_of text).lines)
 
--- THE FIRST LINE that may not stand, and why: 6 where it isn't built, also for the end inside a write, and 5 where it holds the first byte past 1 GiB
-abbrev pub end_refusal : Bool → List Line → Option BadLine
-end_refusal is_over older =
-    if is_over then Some (record { line = length older + 1; cause = 5 }) else
-    if is_some (place_of older).draft then Some (record { line = length older + 1; cause = 6 }) else None
+-- THE FIRST LINE that may not stand, and why: 1 where it is of no line's form, 4 for the end inside a write, 5 where it holds the first byte past 1 GiB, 6 where it isn't built
+abbrev pub IsCause : ℕ → Type 0
+IsCause cause = (cause ≡ 1) ⊎ ((cause ≡ 4) ⊎ ((cause ≡ 5) ⊎ (cause ≡ 6)))
 
-abbrev pub refusal_from : Bool → List Line → List Line → Option BadLine
-refusal_from is_over older [] = end_refusal is_over older
-refusal_from is_over older (line ∷ lines) = if may_stand older line then refusal_from is_over (line ∷ older) lines else Some (record { line = length older + 1; cause = 6 })
+abbrev pub end_refusal : Bool → Split → List Line → Option BadLine
+end_refusal is_over split older =
+    if is_some split.stop then Some (record { line = split.last.number; cause = 1 }) else
+    if is_over then Some (record { line = split.last.number; cause = 5 }) else
+    if is_some (place_of older).draft then Some (record { line = split.last.number; cause = 4 }) else None
 
-abbrev pub refusal_of : List ℕ → Option BadLine
-refusal_of text = refusal_from (is_long text) [] (lines_in text)
+abbrev pub refusal_from : Bool → Bool → Split → List Line → List TextLine → Option BadLine
+refusal_from is_built is_over split older [] = end_refusal is_over split older
+refusal_from is_built is_over split older (line ∷ lines) =
+    if is_built && may_stand older (said line) then refusal_from is_built is_over split (said line ∷ older) lines else Some (record { line = line.number; cause = 6 })
+
+abbrev pub refusal_of : Bool → List ℕ → Option BadLine
+refusal_of is_built text = refusal_from is_built (is_long text) (split_of text) [] (split_of text).lines
 
 -- THE SCREEN
-abbrev pub screen : List ℕ → List ℕ
-screen text = screen_of one empty_world (events_of text)
+abbrev pub screen : Bool → List ℕ → List ℕ
+screen is_built text = screen_of one empty_world (events_of is_built text)
 
 -- what a rehearsal is answered that was read and written without a fault
 abbrev pub ending : Option BadLine → Result (Unit {0}) WorldRefusal
@@ -98,7 +110,7 @@ ending None = Ok tt
 ending (Some bad) = Err (world_refusal.BadLine bad.line bad.cause)
 
 -- what a rehearsal of a text is answered and writes: the whole screen and the ending that the text has, unless a fault or want of memory came; and always a front of the screen
-pub record Shows (text : List ℕ) (result : Result (Unit {0}) WorldRefusal) (old new : Option (List ℕ)) : Type 0 where
+pub record Shows (is_built : Bool) (text : List ℕ) (result : Result (Unit {0}) WorldRefusal) (old new : Option (List ℕ)) : Type 0 where
   pub ends : result ≢ Err world_refusal.ReadFault → result ≢ Err world_refusal.WriteFault → result ≢ Err world_refusal.NoMemory
-      → (result ≡ ending (refusal_of text)) × (new ≡ after_told old (screen text))
-  pub part : (n : ℕ) × ((n ≤ length (screen text)) × (new ≡ after_told old (take n (screen text))))
+      → (result ≡ ending (refusal_of is_built text)) × (new ≡ after_told old (screen is_built text))
+  pub part : (n : ℕ) × ((n ≤ length (screen is_built text)) × (new ≡ after_told old (take n (screen is_built text))))

@@ -6,13 +6,12 @@ use Rattle.sds_spec.specs.declared.event.WorldEvent.TheVariants as event
 use Rattle.sds_laws.specs.Pairs.{is_written_row}
 use Rattle.sds_node.specs.NewRows.{ArePairRows}
 use Rattle.sds_world.specs.declared.line.Line.{Line}
-use Rattle.sds_world.specs.declared.line.Line.TheVariants.{Skip, Opening, Write, Row, End, Route, Push, Show, Other}
+use Rattle.sds_world.specs.declared.line.Line.TheVariants.{Opening, Write, Row, End, Route, Push, Show, Other}
 use Rattle.sds_world.specs.declared.place.Draft.{Draft}
 use Rattle.sds_world.specs.declared.place.Place.{Place}
 use Rattle.sds_world.specs.Looking.{corp, s1}
 
 abbrev pub IsSoundLine : Line → Type 0
-IsSoundLine Skip = Unit {0}
 IsSoundLine (Opening which) = Unit {0}
 IsSoundLine (Write writer number) = is_name_text writer ≡ true
 IsSoundLine (Row row) = is_written_row row ≡ true

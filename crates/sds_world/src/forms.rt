@@ -1,41 +1,25 @@
-ghost use Rattle.std.specs.Prelude.{◌≡◌, Some, None, IfOk, MatchOption, true, false};
+ghost use Rattle.std.specs.Prelude.{◌≡◌, IfOk, IfSome, IsTrue, MatchOption, true, false};
 ghost use Rattle.std.specs.List.{list_all};
 ghost use Rattle.std.specs.Char.{is_ascii_digit};
+ghost use Rattle.std.specs.Str.{all_scalars};
+ghost use Rattle.sds_laws.specs.Pairs.{is_of_characters};
 ghost use Rattle.sds_value.specs.Values.{digits_value};
-ghost use Rattle.sds_world.specs.Scenario.{line_of, said_by, opening_of, given_of, step_of, write_of, insert_of, row_of, field_of, is_number, is_key, is_short_text};
-ghost use Rattle.sds_world.specs.Words.{are, texts};
+ghost use Rattle.sds_world.specs.Scenario.{line_of, opening_of, given_of, step_of, write_of, insert_of, row_of, is_number, is_key, is_short};
+ghost use Rattle.sds_world.specs.Sound.{IsSoundLine};
+ghost use Rattle.sds_world.specs.Words.{is_plain, is_word, are, texts, ArePlain};
 
-use crate::fields::{has_quote, is_skipped, readable, split_fields};
 use crate::words::word;
 use crate::{Line, Opening};
-use sds_base::{List, NoMemory, Txt};
+use sds_base::{List, NoMemory, Twin, Txt};
 use sds_spec::TxRow;
 use sds_value::{Binary, Event, Field, Kind, Value, ValueRefusal, is_name};
 use std::alloc::Global;
 
-/// What one line of a scenario says by itself, wherever it stands: its bytes without the line feed are handed in.
-///
-/// A line that isn't UTF-8, is longer than 1,048,576 bytes, or holds a double quote and isn't a comment is `Other`,
-/// as is any line that none of the forms fits. Spaces, tabs and carriage returns round a field don't count.
-pub fn read_line(alloc: Global, line: &[u8]) -> Result<Line, NoMemory>
-    ensures { IfOk result (λ said. said ≡ line_of line.now) }
-{
-    let Some(text) = readable(line) else {
-        return Ok(Line::Other);
-    };
-    if is_skipped(text) {
-        return Ok(Line::Skip);
-    }
-    if has_quote(text) {
-        return Ok(Line::Other);
-    }
-    let fields = split_fields(alloc, text)?;
-    read_fields(alloc, fields.as_slice())
-}
-
-/// What the fields of a line say.
-fn read_fields(alloc: Global, fields: &[&str]) -> Result<Line, NoMemory>
-    ensures { IfOk result (λ line. line ≡ said_by (texts fields.now)) }
+/// What the fields of one line of a scenario say by themselves, wherever the line stands: `Other` where none of the forms
+/// fits.
+pub fn read_fields(alloc: Global, fields: &[Field]) -> Result<Line, NoMemory>
+    ensures said { IfOk result (λ said. said ≡ line_of fields.now) }
+    ensures sound { IfOk result IsSoundLine }
 {
     if let Some(line) = read_opening(fields) {
         return Ok(line);
@@ -47,8 +31,9 @@ fn read_fields(alloc: Global, fields: &[&str]) -> Result<Line, NoMemory>
 }
 
 /// One of the four lines with which a scenario begins.
-fn read_opening(fields: &[&str]) -> Option<Line>
-    ensures { result ≡ opening_of (texts fields.now) }
+fn read_opening(fields: &[Field]) -> Option<Line>
+    ensures said { result ≡ opening_of fields.now }
+    ensures sound { IfSome result IsSoundLine }
 {
     if are(fields, &["node", "corp", "corp", "corp"]) {
         Some(Line::Opening(Opening::Corp))
@@ -64,8 +49,9 @@ fn read_opening(fields: &[&str]) -> Option<Line>
 }
 
 /// One of the other lines that are always the same.
-fn read_step(alloc: Global, fields: &[&str]) -> Result<Option<Line>, NoMemory>
-    ensures { IfOk result (λ line. line ≡ step_of (texts fields.now)) }
+fn read_step(alloc: Global, fields: &[Field]) -> Result<Option<Line>, NoMemory>
+    ensures said { IfOk result (λ line. line ≡ step_of fields.now) }
+    ensures sound { IfOk result (λ line. IfSome line IsSoundLine) }
 {
     if are(fields, &["end"]) {
         Ok(Some(Line::End))
@@ -87,15 +73,16 @@ fn read_step(alloc: Global, fields: &[&str]) -> Result<Option<Line>, NoMemory>
 }
 
 /// One of the two lines with fields of their own.
-fn read_given(alloc: Global, fields: &[&str]) -> Result<Option<Line>, NoMemory>
-    ensures { IfOk result (λ line. line ≡ given_of (texts fields.now)) }
+fn read_given(alloc: Global, fields: &[Field]) -> Result<Option<Line>, NoMemory>
+    ensures said { IfOk result (λ line. line ≡ given_of fields.now) }
+    ensures sound { IfOk result (λ line. IfSome line IsSoundLine) }
 {
-    let [directive, place, first, second] = *fields else {
+    let [directive, place, first, second] = fields else {
         return Ok(None);
     };
-    if are(&[directive, place], &["write", "corp"]) {
+    if is_word(directive, "write") && is_word(place, "corp") {
         read_write(alloc, first, second)
-    } else if are(&[directive, place], &["insert", "pair"]) {
+    } else if is_word(directive, "insert") && is_word(place, "pair") {
         read_insert(alloc, first, second)
     } else {
         Ok(None)
@@ -103,21 +90,31 @@ fn read_given(alloc: Global, fields: &[&str]) -> Result<Option<Line>, NoMemory>
 }
 
 /// The begin of a write, of this writer and this number.
-fn read_write(alloc: Global, writer: &str, number: &str) -> Result<Option<Line>, NoMemory>
-    ensures { IfOk result (λ line. line ≡ write_of writer.now number.now) }
+fn read_write(alloc: Global, writer: &Field, number: &Field) -> Result<Option<Line>, NoMemory>
+    ensures said { IfOk result (λ line. line ≡ write_of writer.now number.now) }
+    ensures sound { IfOk result (λ line. IfSome line IsSoundLine) }
 {
-    if !is_name(writer) {
+    let (Field::Text(writer), Field::Text(number)) = (writer, number) else {
+        return Ok(None);
+    };
+    if !is_name(writer.as_str()) {
         return Ok(None);
     }
     let Some(number) = read_number(number) else {
         return Ok(None);
     };
-    let writer = Txt::copied(alloc, writer)?;
+    let writer = writer.twin(alloc)?;
     Ok(Some(Line::Write { writer, number }))
 }
 
 /// The number that 1 to 19 decimal digits write.
-fn read_number(text: &str) -> Option<u64>
+fn read_number(text: &Txt) -> Option<u64>
+    ensures { MatchOption result (is_number text.now ≡ false) (λ number. (is_number text.now ≡ true) × (number ≡ digits_value text.now)) }
+{
+    read_digits(text.as_str())
+}
+
+fn read_digits(text: &str) -> Option<u64>
     ensures { MatchOption result (is_number text.now ≡ false) (λ number. (is_number text.now ≡ true) × (number ≡ digits_value text.now)) }
 {
     let digits = text.as_bytes();
@@ -134,48 +131,58 @@ fn all_digits(bytes: &[u8]) -> bool
 }
 
 /// A row of the table pair, of this key and this text.
-fn read_insert(alloc: Global, key: &str, text: &str) -> Result<Option<Line>, NoMemory>
-    ensures { IfOk result (λ line. line ≡ insert_of key.now text.now) }
+fn read_insert(alloc: Global, key: &Field, text: &Field) -> Result<Option<Line>, NoMemory>
+    ensures said { IfOk result (λ line. line ≡ insert_of key.now text.now) }
+    ensures sound { IfOk result (λ line. IfSome line IsSoundLine) }
 {
+    let Field::Text(key) = key else {
+        return Ok(None);
+    };
     if !is_key(alloc, key)? {
         return Ok(None);
     }
-    if !is_short_text(alloc, text)? {
+    if !is_short(alloc, text)? {
         return Ok(None);
     }
     Ok(Some(Line::Row(row(alloc, key, text)?)))
 }
 
 /// Whether it is the printed text of an INTEGER.
-fn is_key(alloc: Global, field: &str) -> Result<bool, NoMemory>
-    ensures { IfOk result (λ holds. holds ≡ is_key field.now) }
+fn is_key(alloc: Global, key: &Txt) -> Result<bool, NoMemory>
+    ensures holds { IfOk result (λ holds. holds ≡ is_key key.now) }
+    ensures characters { IfOk result (λ _. all_scalars key.now ≡ true) }
 {
-    let value = match Value::read(alloc, Kind::Integer, field, Binary::Base64) {
+    let text = key.as_str();
+    let value = match Value::read(alloc, Kind::Integer, text, Binary::Base64) {
         Ok(value) => value,
         Err(ValueRefusal::NoMemory) => return Err(NoMemory),
         Err(_) => return Ok(false),
     };
     let mut printed = Vec::new(alloc);
     value.put(Kind::Integer, Binary::Base64, &mut printed)?;
-    Ok(printed.as_slice() == field.as_bytes())
+    Ok(printed.as_slice() == text.as_bytes())
 }
 
-/// Whether it is a text of VARCHAR(40).
-fn is_short_text(alloc: Global, field: &str) -> Result<bool, NoMemory>
-    ensures { IfOk result (λ holds. holds ≡ is_short_text field.now) }
+/// Whether it is null or a text of VARCHAR(40).
+fn is_short(alloc: Global, field: &Field) -> Result<bool, NoMemory>
+    ensures holds { IfOk result (λ holds. holds ≡ is_short field.now) }
+    ensures characters { IfOk result (λ _. is_of_characters field.now ≡ true) }
 {
-    match Value::read(alloc, Kind::Varchar(40), field, Binary::Base64) {
+    let Field::Text(text) = field else {
+        return Ok(true);
+    };
+    match Value::read(alloc, Kind::Varchar(40), text.as_str(), Binary::Base64) {
         Ok(_) => Ok(true),
         Err(ValueRefusal::NoMemory) => Err(NoMemory),
         Err(_) => Ok(false),
     }
 }
 
-fn row(alloc: Global, key: &str, text: &str) -> Result<TxRow, NoMemory>
+fn row(alloc: Global, key: &Txt, text: &Field) -> Result<TxRow, NoMemory>
     ensures { IfOk result (λ row. row ≡ row_of key.now text.now) }
 {
-    let key = Field::Text(Txt::copied(alloc, key)?);
-    let text = field(alloc, text)?;
+    let key = Field::Text(key.twin(alloc)?);
+    let text = text.twin(alloc)?;
     Ok(TxRow {
         event: Event::Insert,
         table: word(alloc, "pair")?,
@@ -183,19 +190,27 @@ fn row(alloc: Global, key: &str, text: &str) -> Result<TxRow, NoMemory>
     })
 }
 
-/// An empty field is null.
-fn field(alloc: Global, text: &str) -> Result<Field, NoMemory>
-    ensures { IfOk result (λ field. field ≡ field_of text.now) }
+/// Whether the field is this word.
+fn is_word(field: &Field, word: &str) -> bool
+    requires { IsTrue (is_plain word.now) }
+    ensures { result ≡ is_word field.now word.now }
 {
-    if text.is_empty() {
-        return Ok(Field::Null);
+    match field {
+        Field::Null => false,
+        Field::Text(text) => text.is(word),
     }
-    Ok(Field::Text(Txt::copied(alloc, text)?))
 }
 
 /// Whether the fields are these words.
-fn are(fields: &[&str], words: &[&str]) -> bool
-    ensures { result ≡ are (texts fields.now) (texts words.now) }
+fn are(fields: &[Field], words: &[&str]) -> bool
+    requires { ArePlain (texts words.now) }
+    ensures { result ≡ are fields.now (texts words.now) }
 {
-    fields == words
+    let [field, fields @ ..] = fields else {
+        return words.is_empty();
+    };
+    let [word, words @ ..] = words else {
+        return false;
+    };
+    is_word(field, word) && are(fields, words)
 }

@@ -1,12 +1,11 @@
 //! Rehearsals: what a scenario's line says by itself, where it may stand, what it makes happen, and what that prints.
 #![tactic(auto)]
 
-mod fields;
 mod fixed;
 mod forms;
+mod game;
 mod headline;
 mod line;
-mod lines;
 mod message;
 mod nodes;
 mod place;
@@ -16,10 +15,9 @@ mod text;
 mod words;
 
 pub use fixed::one;
-pub use forms::read_line;
+pub use forms::read_fields;
 pub use headline::{routed_changes_go_once, tables_are_folds};
 pub use line::{Line, Opening};
-pub use lines::split_line;
 pub use place::{Draft, Place, fits, take_line};
 pub use rehearsal::{BadLine, WorldRefusal, rehearse, scenarios_stay_in_step};
 

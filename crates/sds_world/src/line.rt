@@ -14,11 +14,9 @@ pub enum Opening {
     Register,
 }
 
-/// What one line of a scenario says by itself, wherever it stands.
+/// What a line of a scenario says by itself that has fields, wherever it stands.
 #[derive(Debug, Drop)]
 pub enum Line {
-    /// Nothing: the line is blank or a comment.
-    Skip,
     /// One of the four lines with which a scenario begins.
     Opening(Opening),
     /// `write,corp,WRITER,NUMBER`: a write of the head office begins, and its rows follow.

@@ -49,7 +49,7 @@ impl Place {
 /// Whether the line may stand at this place, where `last` is the number of its writer's last accepted write, 0
 /// without one, and `settled` says whether every batch made so far is loaded.
 ///
-/// A line that is skipped always may. A scenario begins with the four opening lines in their order. Behind them a
+/// A scenario begins with the four opening lines in their order. Behind them a
 /// write may begin where none is open and its number is the writer's next, a row and an end may stand where a
 /// write is open, and a routing run, a push or a show where none is, the routing run only where all batches are
 /// settled. The 10,001st row of a scenario may not stand, nor any other line.
@@ -58,7 +58,6 @@ pub fn fits(place: &Place, last: u64, settled: bool, line: &Line) -> bool
     ensures room { IsTrue result → IsTrue (has_room place.now line.now) }
 {
     match line {
-        Line::Skip => true,
         Line::Opening(which) => place.openings == order_of(*which) && place.draft.is_none(),
         Line::Write { number, .. } => is_ready(place) && is_next(last, *number),
         Line::Row(_) => place.draft.is_some() && place.rows < MOST_ROWS,
@@ -96,7 +95,7 @@ fn is_next(last: u64, number: u64) -> bool
 }
 
 /// Takes a line for which the place has room, as it has where the line fits: the place becomes the one behind the
-/// line, and the answer is what the line makes happen, which a skipped line, the begin of a write and a row do not.
+/// line, and the answer is what the line makes happen, which the begin of a write and a row do not.
 /// Where memory is wanting, the place stays as it was.
 pub fn take_line(
     alloc: Global,
@@ -131,7 +130,7 @@ pub fn take_line(
             to: word(alloc, "s1")?,
         })),
         Line::Show { node } => Ok(Some(WorldEvent::Show { node })),
-        Line::Skip | Line::Other => Ok(None),
+        Line::Other => Ok(None),
     }
 }
 

@@ -1,6 +1,7 @@
-// Tests of splitting, of what lines say, of where they may stand and of what they make happen.
-use crate::{Draft, Line, Place, fits, read_line, split_line, take_line};
+// Tests of what lines say, of where they may stand and of what they make happen.
+use crate::{Draft, Line, Place, fits, read_fields, take_line};
 use sds_base::{List, NoMemory, Txt};
+use sds_line::{LineRefusal, read_line};
 use sds_spec::{TxRow, WorldEvent};
 use sds_value::{Event, Field};
 use std::alloc::Global;
@@ -13,47 +14,22 @@ const FORTY: &str = "aaaaaaaaaabbbbbbbbbbccccccccccdddddddddd";
 const OPENINGS: &str =
     "node,corp,corp,corp\nnode,s1,store,001\nopen,corp,store,001\nregister,s1,corp\n";
 
-/// The lines of a text, each with a `|` behind it.
-fn marked(alloc: Global, text: &str) -> Result<Vec<u8>, NoMemory> {
-    let mut marked = Vec::new(alloc);
-    let mut rest = text.as_bytes();
-    for _ in 0..10 {
-        if rest.is_empty() {
-            break;
-        }
-        let (line, behind) = split_line(rest);
-        marked.extend_from_slice(line)?;
-        marked.push(b'|')?;
-        rest = behind;
+/// What a line says, in words: `skip` where it has no fields, `refused` where it is no line.
+fn said(alloc: Global, line: &str) -> Result<String, NoMemory> {
+    let fields = match read_line(alloc, line.as_bytes()) {
+        Ok(fields) => fields,
+        Err(LineRefusal::NoMemory) => return Err(NoMemory),
+        Err(_) => return Ok(String::from_str(alloc, "refused")?),
+    };
+    if fields.inner().is_empty() {
+        return Ok(String::from_str(alloc, "skip")?);
     }
-    Ok(marked)
+    let line = read_fields(alloc, fields.inner().as_slice())?;
+    line_words(alloc, line)
 }
 
-#[test]
-fn a_line_ends_at_a_line_feed_or_at_the_end(rt: HostRuntime) -> Result<(), Fail> {
-    for (text, lines) in [
-        ("", ""),
-        ("a", "a|"),
-        ("a\n", "a|"),
-        ("a\n\n", "a||"),
-        ("\n", "|"),
-        ("\n\na", "||a|"),
-        ("a\r\nb", "a\r|b|"),
-        ("a,\"b\nc\"", "a,\"b|c\"|"),
-    ] {
-        assert_eq!(rt;
-            marked(rt.alloc(), text)?.as_slice(),
-            lines.as_bytes(),
-            "{text:?}"
-        );
-    }
-    Ok(())
-}
-
-/// What a line says, in words.
-fn said(alloc: Global, line: &[u8]) -> Result<String, NoMemory> {
-    let words = match read_line(alloc, line)? {
-        Line::Skip => String::from_str(alloc, "skip")?,
+fn line_words(alloc: Global, line: Line) -> Result<String, NoMemory> {
+    let words = match line {
         Line::Opening(which) => format!(in alloc; "{which:?}")?,
         Line::Write { writer, number } => {
             let writer = writer.as_str();
@@ -94,6 +70,7 @@ fn row_words(alloc: Global, row: &TxRow) -> Result<String, NoMemory> {
 const FORMS: &str = " => skip
  \t\r => skip
 # a \"comment\" => skip
+\"#\" => other
 \t #insert,pair,2,Ink => skip
 node,corp,corp,corp => Corp
 \tnode , corp\t,corp,  corp \r => Corp
@@ -125,11 +102,22 @@ insert,pairs,2,Ink => other
 insert,,2,Ink => other
 update,pair,2,Ink => other
 Insert,pair,2,Ink => other
-insert,pair,2,\"Ink\" => other
-insert,pair,2,6\" nails => other
+insert,pair,2,\"Ink\" => row 2 Ink
+\"insert\", \"pair\",\"2\"\t,\" Blue, ink \" => row 2  Blue, ink 
+insert,pair,2,\"6\\\" of \\\\\" => row 2 6\" of \\
+insert,pair,2,\"\" => row 2 
+insert,pair,\" 2\",Ink => other
+insert,pair,\"\",Ink => other
+\"insert \",pair,2,Ink => other
+insert,pair,2,6\" nails => refused
+insert,pair,2,\"Ink => refused
+insert,pair,2,\"Ink\" x => refused
+insert,pair,2,\"I\\nk\" => refused
 end => end
  end\r => end
+\"end\" => end
 end, => other
+\"\" => other
 ends => other
 route,corp => route
 route,s1 => other
@@ -149,11 +137,7 @@ batches,corp => other
 fn lines_say_what_their_forms_say(rt: HostRuntime) -> Result<(), Fail> {
     for row in FORMS.lines() {
         let (line, words) = row.split_once(" => ").ok_or("no words")?;
-        assert_eq!(rt;
-            said(rt.alloc(), line.as_bytes())?.as_str(),
-            words,
-            "{line:?}"
-        );
+        assert_eq!(rt; said(rt.alloc(), line)?.as_str(), words, "{line:?}");
     }
     Ok(())
 }
@@ -174,6 +158,8 @@ write,corp,office => other
 write,corp,office,1, => other
 write,corp,,1 => other
 write,corp,of fice,1 => other
+write,corp,\"office\",\"1\" => write office 1
+write,corp,\"office \",1 => other
 write,s1,office,1 => other
 ";
 
@@ -181,20 +167,16 @@ write,s1,office,1 => other
 fn a_write_has_a_name_and_a_number_of_1_to_19_digits(rt: HostRuntime) -> Result<(), Fail> {
     for row in WRITES.lines() {
         let (line, words) = row.split_once(" => ").ok_or("no words")?;
-        assert_eq!(rt;
-            said(rt.alloc(), line.as_bytes())?.as_str(),
-            words,
-            "{line:?}"
-        );
+        assert_eq!(rt; said(rt.alloc(), line)?.as_str(), words, "{line:?}");
     }
     let longest = format!(in rt.alloc(); "write,corp,{FIFTY},1")?;
     let words = format!(in rt.alloc(); "write {FIFTY} 1")?;
     assert_eq!(rt;
-        said(rt.alloc(), longest.as_bytes())?.as_str(),
+        said(rt.alloc(), longest.as_str())?.as_str(),
         words.as_str()
     );
     let longer = format!(in rt.alloc(); "write,corp,{FIFTY}f,1")?;
-    assert_eq!(rt; said(rt.alloc(), longer.as_bytes())?.as_str(), "other");
+    assert_eq!(rt; said(rt.alloc(), longer.as_str())?.as_str(), "other");
     Ok(())
 }
 
@@ -209,48 +191,37 @@ fn a_text_has_at_most_40_characters(rt: HostRuntime) -> Result<(), Fail> {
     for text in [FORTY, wide] {
         let line = format!(in alloc; "insert,pair,2,{text}")?;
         let words = format!(in alloc; "row 2 {text}")?;
-        assert_eq!(rt; said(alloc, line.as_bytes())?.as_str(), words.as_str());
+        assert_eq!(rt; said(alloc, line.as_str())?.as_str(), words.as_str());
         let longer = format!(in alloc; "insert,pair,2,{text}e")?;
-        assert_eq!(rt; said(alloc, longer.as_bytes())?.as_str(), "other", "{text}");
+        assert_eq!(rt; said(alloc, longer.as_str())?.as_str(), "other", "{text}");
     }
     Ok(())
 }
 
-#[test]
-fn a_line_is_utf_8_of_at_most_1_mib(rt: HostRuntime) -> Result<(), Fail> {
-    let alloc = rt.alloc();
-    assert_eq!(rt; said(alloc, b"# \xff")?.as_str(), "other");
-    assert_eq!(rt; said(alloc, b"insert,pair,2,\xc3")?.as_str(), "other");
-    assert_eq!(rt;
-        said(alloc, b"insert,pair,2,\xc3\xa9")?.as_str(),
-        "row 2 \u{e9}"
-    );
-    for (byte, words) in [(b'#', "skip"), (b' ', "skip"), (b',', "other")] {
-        let mut line = vec![in alloc; byte; 1_048_576]?;
-        assert_eq!(rt; said(alloc, line.as_slice())?.as_str(), words);
-        line.push(byte)?;
-        assert_eq!(rt; said(alloc, line.as_slice())?.as_str(), "other");
+/// What a line says that is a line, where it has fields.
+fn line_of(alloc: Global, text: &str) -> Result<Option<Line>, LineRefusal> {
+    let fields = read_line(alloc, text.as_bytes())?;
+    if fields.inner().is_empty() {
+        return Ok(None);
     }
-    Ok(())
+    Ok(Some(read_fields(alloc, fields.inner().as_slice())?))
 }
 
-/// How many lines of a text may stand, one behind the other, up to the first that may not.
-fn fitting(alloc: Global, text: &str, last: u64, settled: bool) -> Result<usize, NoMemory> {
+/// How many lines of a text that have fields may stand, one behind the other, up to the first that may not.
+fn fitting(alloc: Global, text: &str, last: u64, settled: bool) -> Result<usize, LineRefusal> {
     let mut place = Place::start();
-    let mut rest = text.as_bytes();
-    for count in 0..20 {
-        if rest.is_empty() {
-            return Ok(count);
-        }
-        let (line, behind) = split_line(rest);
-        let line = read_line(alloc, line)?;
+    let mut count = 0;
+    for line in text.lines().take(20) {
+        let Some(line) = line_of(alloc, line)? else {
+            continue;
+        };
         if !fits(&place, last, settled, &line) {
             return Ok(count);
         }
         take_line(alloc, &mut place, line)?;
-        rest = behind;
+        count = count.saturating_add(1);
     }
-    Ok(20)
+    Ok(count)
 }
 
 #[test]
@@ -259,7 +230,7 @@ fn a_scenario_begins_with_its_four_lines(rt: HostRuntime) -> Result<(), Fail> {
     for (text, count) in [
         ("", 0),
         (OPENINGS, 4),
-        ("# nothing\n\nnode,corp,corp,corp\n", 3),
+        ("# nothing\n\nnode,corp,corp,corp\n", 1),
         ("node,s1,store,001\n", 0),
         ("node,corp,corp,corp\nnode,corp,corp,corp\n", 1),
         ("node,corp,corp,corp\nopen,corp,store,001\n", 1),
@@ -286,7 +257,7 @@ fn lines_behind_the_first_four_stand_at_their_places(rt: HostRuntime) -> Result<
         ("route,corp\n", 0, false, 4),
         ("push,corp,s1\nroute,corp\n", 0, false, 5),
         ("write,corp,office,1\ninsert,pair,1,Pen\nend\n", 0, true, 7),
-        ("write,corp,office,1\n# nothing\nend\nend\n", 0, true, 7),
+        ("write,corp,office,1\n# nothing\nend\nend\n", 0, true, 6),
         ("write,corp,office,1\nwrite,corp,office,1\n", 0, true, 5),
         ("write,corp,office,1\nroute,corp\n", 0, true, 5),
         ("write,corp,office,1\npush,corp,s1\n", 0, true, 5),
@@ -312,7 +283,7 @@ fn lines_behind_the_first_four_stand_at_their_places(rt: HostRuntime) -> Result<
 #[test]
 fn the_10_001st_row_may_not_stand(rt: HostRuntime) -> Result<(), Fail> {
     let alloc = rt.alloc();
-    let row = read_line(alloc, b"insert,pair,1,Pen")?;
+    let row = line_of(alloc, "insert,pair,1,Pen")?.ok_or("no fields")?;
     for (rows, stands) in [(0, true), (9_999, true), (10_000, false), (10_001, false)] {
         let draft = Draft {
             writer: Txt::copied(alloc, "office")?,
@@ -390,7 +361,9 @@ fn a_line_completes_its_event(rt: HostRuntime) -> Result<(), Fail> {
         "show,s1",
         "show,corp",
     ] {
-        let line = read_line(alloc, line.as_bytes())?;
+        let Some(line) = line_of(alloc, line)? else {
+            continue;
+        };
         assert!(rt; fits(&place, 0, true, &line));
         if let Some(event) = take_line(alloc, &mut place, line)? {
             put_event(alloc, &event, &mut events)?;

@@ -1,36 +1,98 @@
--- What the program says and writes of a rehearsal is what the scenario's text has.
-use Rattle.std.proofs.Common.{◌≡◌, inr, ℕ, List, Option, None, Some, Result, Err, refl, ap, ◌∙◌}
+-- What the program says and writes of a rehearsal is what the texts of its configuration and of its scenario have.
+use Rattle.std.proofs.Common.{◌≡◌, ◌≢◌, inl, inr, ℕ, Bool, true, false, List, Option, None, Some, Result, Err, refl, sym, ap, ◌∙◌}
 use Rattle.std.specs.Prelude.{IfSome}
+use Rattle.sds_config.specs.declared.config.Config.{Config}
+use Rattle.sds_config.specs.declared.refusal.ConfigRefusal.{ConfigRefusal}
+use Rattle.sds_config.specs.Configuration.{IsConfiguration, IsFirstRefusal}
+use Rattle.sds_config.proofs.OneReading.{one_configuration, not_both, one_refusal}
 use Rattle.sds_outside.specs.Told.{after_told}
+use Rattle.sds_spec.specs.One.{one}
 use Rattle.sds_world.specs.declared.rehearsal.BadLine.{BadLine}
 use Rattle.sds_world.specs.declared.rehearsal.WorldRefusal.{WorldRefusal}
 use Rattle.sds_world.specs.declared.rehearsal.WorldRefusal.TheVariants as refusal
 use Rattle.sds_world.specs.Played.{refusal_of, screen, ending, Shows}
 use Rattle.sds_world.proofs.Answering.{unshown}
 use Rattle.symds.specs.declared.status.Status.{Status}
-use Rattle.symds.specs.declared.status.Status.TheVariants.{NoMemory}
+use Rattle.symds.specs.declared.status.Status.TheVariants as status
+use Rattle.symds.specs.Configured.{TellsOf, status_of_refusal, unread}
 use Rattle.symds.specs.Rehearsed.{status_by, status_of, Tells}
 
+-- A REHEARSAL
 status_ends : (o : Option BadLine) → status_by (ending o) ≡ status_of o
 status_ends None = refl
 status_ends (Some bad) = refl
 
-tells : (text : List ℕ) (result : Result (Unit {0}) WorldRefusal) (status : Status) (old new : Option (List ℕ)) → status ≡ status_by result → Shows text result old new → Tells text status old new
-tells text result status old new is shows = record {
+tells : (is_built : Bool) (text : List ℕ) (result : Result (Unit {0}) WorldRefusal) (answer : Status) (old new : Option (List ℕ)) → answer ≡ status_by result → Shows is_built text result old new → Tells is_built text answer old new
+tells is_built text result answer old new is shows = record {
   ends = λ read write memory.
-      let both : (result ≡ ending (refusal_of text)) × (new ≡ after_told old (screen text)) =
+      let both : (result ≡ ending (refusal_of is_built text)) × (new ≡ after_told old (screen is_built text)) =
       shows.ends (λ failed. read (is ∙ ap status_by failed)) (λ failed. write (is ∙ ap status_by failed)) (λ failed. memory (is ∙ ap status_by failed)) in (
-        is ∙ (ap status_by both.0 ∙ status_ends (refusal_of text)),
+        is ∙ (ap status_by both.0 ∙ status_ends (refusal_of is_built text)),
         both.1,
       );
   part = shows.part;
 }
 
-pub told_so : (o : Option (List ℕ)) (result : Result (Unit {0}) WorldRefusal) (status : Status) (old new : Option (List ℕ)) → status ≡ status_by result
-    → IfSome o (λ (text : List ℕ). Shows text result old new) → IfSome o (λ (text : List ℕ). Tells text status old new)
-told_so None result status old new is shows = tt
-told_so (Some text) result status old new is shows = tells text result status old new is shows
+pub told_so : (is_built : Bool) (o : Option (List ℕ)) (result : Result (Unit {0}) WorldRefusal) (answer : Status) (old new : Option (List ℕ)) → answer ≡ status_by result
+    → IfSome o (λ (text : List ℕ). Shows is_built text result old new) → IfSome o (λ (text : List ℕ). Tells is_built text answer old new)
+told_so is_built None result answer old new is shows = tt
+told_so is_built (Some text) result answer old new is shows = tells is_built text result answer old new is shows
 
--- for want of memory, nothing is written
-pub untold : (o : Option (List ℕ)) (status : Status) (told : Option (List ℕ)) → status ≡ NoMemory → IfSome o (λ (text : List ℕ). Tells text status told told)
-untold o status told is = told_so o (Err refusal.NoMemory) status told told is (unshown o told (Err refusal.NoMemory) (inr refl))
+-- where nothing was read or memory was wanting, nothing is written
+unread_so : (is_built : Bool) (text : List ℕ) (answer : Status) (told : Option (List ℕ)) → unread answer → ((number : ℕ) (path : List ℕ) → answer ≡ status.Config number path → ⊥) → Tells is_built text answer told told
+unread_so is_built text status.Done told is other = absurd is
+unread_so is_built text (status.Words place) told is other = absurd is
+unread_so is_built text (status.Config number path) told is other = absurd (other number path refl)
+unread_so is_built text status.ReadFault told is other = tells is_built text (Err refusal.ReadFault) status.ReadFault told told refl (unshown is_built (Some text) told (Err refusal.ReadFault) (inl refl))
+unread_so is_built text status.WriteFault told is other = absurd is
+unread_so is_built text status.NoMemory told is other = tells is_built text (Err refusal.NoMemory) status.NoMemory told told refl (unshown is_built (Some text) told (Err refusal.NoMemory) (inr refl))
+unread_so is_built text (status.BadInput line cause) told is other = absurd is
+
+-- BY A CONFIGURATION that was read
+abbrev TellsTo : Bool → Option (List ℕ) → Status → Option (List ℕ) → Option (List ℕ) → Type 0
+TellsTo is_built o answer old new = IfSome o (λ (text : List ℕ). Tells is_built text answer old new)
+
+read_of : (file text : List ℕ) (config : Config) (answer : Status) (old new : Option (List ℕ)) → IsConfiguration file config → (config ≡ one → Tells true text answer old new) → (config ≢ one → Tells false text answer old new)
+    → TellsOf file text answer old new
+read_of file text config answer old new is first other = record {
+  built = λ ours. first (one_configuration file config one is ours);
+  unbuilt = λ theirs known not_one. other (λ same. not_one (one_configuration file theirs config known is ∙ same));
+  refused = λ refusal known. absurd (not_both file config refusal is known);
+}
+
+pub read_so : (f o : Option (List ℕ)) (config : Config) (answer : Status) (old new : Option (List ℕ)) → IfSome f (λ (file : List ℕ). IsConfiguration file config) → (config ≡ one → TellsTo true o answer old new)
+    → (config ≢ one → TellsTo false o answer old new) → IfSome f (λ (file : List ℕ). IfSome o (λ (text : List ℕ). TellsOf file text answer old new))
+read_so None o config answer old new is first other = tt
+read_so (Some file) None config answer old new is first other = tt
+read_so (Some file) (Some text) config answer old new is first other = read_of file text config answer old new is first other
+
+-- OR BY ONE that is refused
+abbrev RefusedBy : List ℕ → Status → Type 0
+RefusedBy file answer = (refusal : ConfigRefusal) × (IsFirstRefusal file refusal × (answer ≡ status_of_refusal refusal))
+
+read_fault_no : (number : ℕ) (path : List ℕ) → status.Config number path ≡ status.ReadFault → ⊥
+read_fault_no number path is = cc
+
+no_memory_no : (number : ℕ) (path : List ℕ) → status.Config number path ≡ status.NoMemory → ⊥
+no_memory_no number path is = cc
+
+refused_of : (file text : List ℕ) (answer : Status) (told : Option (List ℕ)) → unread answer → (answer ≢ status.ReadFault → answer ≢ status.NoMemory → RefusedBy file answer) → TellsOf file text answer told told
+refused_of file text answer told is by =
+    let never : (config : Config) → IsConfiguration file config → (number : ℕ) (path : List ℕ) → answer ≡ status.Config number path → ⊥ =
+    λ config known number path same.
+    let refused : RefusedBy file answer = by (λ e. read_fault_no number path (sym same ∙ e)) (λ e. no_memory_no number path (sym same ∙ e)) in
+    not_both file config refused.0 known refused.1.0 in
+    record {
+      built = λ ours. unread_so true text answer told is (never one ours);
+      unbuilt = λ config known other. unread_so false text answer told is (never config known);
+      refused = λ why known. (
+        λ read memory. let refused : RefusedBy file answer = by read memory in refused.1.1 ∙ ap status_of_refusal (one_refusal file refused.0 why refused.1.0 known),
+        refl,
+      );
+    }
+
+pub refused_so : (f o : Option (List ℕ)) (answer : Status) (told : Option (List ℕ)) → unread answer → (answer ≢ status.ReadFault → answer ≢ status.NoMemory → IfSome f (λ (file : List ℕ). RefusedBy file answer))
+    → IfSome f (λ (file : List ℕ). IfSome o (λ (text : List ℕ). TellsOf file text answer told told))
+refused_so None o answer told is by = tt
+refused_so (Some file) None answer told is by = tt
+refused_so (Some file) (Some text) answer told is by = refused_of file text answer told is by

@@ -1,3 +1,4 @@
+pub mod Configured
 pub mod Rehearsed
 pub mod Statuses
 pub mod Words

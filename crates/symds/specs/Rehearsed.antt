@@ -1,5 +1,5 @@
 -- The status of a rehearsal, and what it writes.
-use Rattle.std.specs.Prelude.{◌≡◌, ◌≢◌, ℕ, ◌≤◌, List, length, take, Option, None, Some, Result, Ok, Err}
+use Rattle.std.specs.Prelude.{◌≡◌, ◌≢◌, ℕ, Bool, ◌≤◌, List, length, take, Option, None, Some, Result, Ok, Err}
 use Rattle.sds_outside.specs.Told.{after_told}
 use Rattle.sds_world.specs.declared.rehearsal.BadLine.{BadLine}
 use Rattle.sds_world.specs.declared.rehearsal.WorldRefusal.{WorldRefusal}
@@ -21,7 +21,7 @@ abbrev pub status_of : Option BadLine → Status
 status_of None = Done
 status_of (Some bad) = BadInput bad.line bad.cause
 
--- what a rehearsal of a text is answered and writes: the status and the whole screen that the text has, unless a fault or want of memory came; and always a front of the screen
-pub record Tells (text : List ℕ) (status : Status) (old new : Option (List ℕ)) : Type 0 where
-  pub ends : status ≢ ReadFault → status ≢ WriteFault → status ≢ NoMemory → (status ≡ status_of (refusal_of text)) × (new ≡ after_told old (screen text))
-  pub part : (n : ℕ) × ((n ≤ length (screen text)) × (new ≡ after_told old (take n (screen text))))
+-- what a rehearsal of a text is answered and writes, by whether its lines are built: the status and the whole screen that the text has, unless a fault or want of memory came; and always a front of the screen
+pub record Tells (is_built : Bool) (text : List ℕ) (status : Status) (old new : Option (List ℕ)) : Type 0 where
+  pub ends : status ≢ ReadFault → status ≢ WriteFault → status ≢ NoMemory → (status ≡ status_of (refusal_of is_built text)) × (new ≡ after_told old (screen is_built text))
+  pub part : (n : ℕ) × ((n ≤ length (screen is_built text)) × (new ≡ after_told old (take n (screen is_built text))))

@@ -1,23 +1,31 @@
-ghost use Rattle.std.specs.Prelude.{◌≡◌, ◌⊎◌, ℕ, true, false, codes, IfSome, take};
+ghost use Rattle.std.specs.Prelude.{◌≡◌, ◌≢◌, ◌⊎◌, ℕ, Bool, List, [], unwrap_or, true, false, codes, IfOk, IfErr, IfSome, take};
 ghost use Rattle.std.specs.Str.{bytes_eq};
+ghost use Rattle.sds_config.specs.Configuration.{IsConfiguration, IsFirstRefusal};
+ghost use Rattle.sds_config.specs.Refusals.{path_of};
 ghost use Rattle.sds_outside.specs.Causes.{Rose};
 ghost use Rattle.sds_outside.specs.Told.{IsAtEnd};
 ghost use Rattle.sds_spec.specs.Happens.{world_after};
 ghost use Rattle.sds_spec.specs.InStep.{InStep};
 ghost use Rattle.sds_spec.specs.One.{one};
 ghost use Rattle.sds_spec.specs.World.{empty_world};
-ghost use Rattle.sds_world.specs.Played.{events_of};
+ghost use Rattle.sds_world.specs.Played.{IsCause, events_of};
+ghost use Rattle.symds.specs.Configured.{TellsOf, status_of_refusal, unread};
 ghost use Rattle.symds.specs.Rehearsed.{status_by, Tells};
 ghost use Rattle.symds.specs.Words.{is_rehearse};
 
 use crate::status::Status;
-use sds_base::Txt;
-use sds_outside::{Keeper, Link, Sink, Source};
-use sds_world::{WorldRefusal, one, rehearse};
+use sds_base::{NoMemory, Twin, Txt};
+use sds_config::{Config, ConfigRefusal};
+use sds_outside::{Keeper, Link, ReadStop, Sink, Source, read_all};
+use sds_world::{WorldRefusal, rehearse};
 use std::alloc::Global;
 
-/// Does what the words say: `rehearse` plays the scenario of `input` and writes its screen to `out`. Any other words are
-/// refused. The keeper is handed back as it was; the configuration and the link aren't touched.
+/// How many bytes of a configuration file are read at most: 1 MiB, and some more of a file that is longer, which is refused.
+const MOST_BYTES: usize = 1 << 20;
+
+/// Does what the words say: `rehearse` reads the configuration file, plays the scenario of `input` under it and writes its
+/// screen to `out`. Any other words are refused before anything is read. A configuration that is refused ends the call
+/// before the input is read. The keeper is handed back as it was; the link isn't touched.
 pub fn run<K: Keeper, S: Source, I: Source, W: Sink, L: Link>(
     alloc: Global,
     words: &[Txt],
@@ -29,27 +37,26 @@ pub fn run<K: Keeper, S: Source, I: Source, W: Sink, L: Link>(
     out: &mut W,
 ) -> (Status, K)
     ensures keeper { result.1 ≡ keeper }
-    ensures config { config.new ≡ config.old }
     ensures link { link.new ≡ link.old }
-    // What is answered and written is what the text of the input says.
-    ensures tells { is_rehearse words.now ≡ true → IfSome (I.left input.old) (λ text. Tells text result.0 (W.taken out.old) (W.taken out.new)) }
+    // What is answered and written is what the texts of the configuration and of the input say.
+    ensures tells { is_rehearse words.now ≡ true → IfSome (S.left config.old) (λ file. IfSome (I.left input.old) (λ text. TellsOf file text result.0 (W.taken out.old) (W.taken out.new))) }
     // After each event of the scenario the nodes are in step.
-    ensures in_step { IfSome (I.left input.old) (λ text. (n : ℕ) → InStep one (world_after one empty_world (take n (events_of text)))) }
+    ensures in_step { IfSome (I.left input.old) (λ text. (is_built : Bool) (n : ℕ) → InStep one (world_after one empty_world (take n (events_of is_built text)))) }
     ensures done { result.0 ≡ Status.Done → IsAtEnd (I.left input.new) }
     ensures words { is_rehearse words.now ≡ false → result.0 ≡ Status.Words 0 }
     ensures words_only { (place : ℕ) → result.0 ≡ Status.Words place → (place ≡ 0) × (is_rehearse words.now ≡ false) }
-    ensures words_untouched { is_rehearse words.now ≡ false → (input.new ≡ input.old) × (out.new ≡ out.old) }
-    ensures read { result.0 ≡ Status.ReadFault → Rose (I.faults input.old) (I.faults input.new) }
+    ensures words_untouched { is_rehearse words.now ≡ false → (config.new ≡ config.old) × (input.new ≡ input.old) × (out.new ≡ out.old) }
+    ensures config_untouched { (number : ℕ) (path : List ℕ) → result.0 ≡ Status.Config number path → (input.new ≡ input.old) × (out.new ≡ out.old) }
+    ensures read { result.0 ≡ Status.ReadFault → Rose (S.faults config.old) (S.faults config.new) ⊎ Rose (I.faults input.old) (I.faults input.new) }
     ensures read_writes { result.0 ≡ Status.ReadFault → W.taken out.new ≡ W.taken out.old }
     ensures write { result.0 ≡ Status.WriteFault → Rose (W.faults out.old) (W.faults out.new) }
-    ensures cause { (line cause : ℕ) → result.0 ≡ Status.BadInput line cause → (cause ≡ 5) ⊎ (cause ≡ 6) }
+    ensures cause { (line cause : ℕ) → result.0 ≡ Status.BadInput line cause → IsCause cause }
 {
-    let _ = config;
     let _ = link;
     if !is_rehearse(words) {
         return (Status::Words { place: 0 }, keeper);
     }
-    let status = play(alloc, input, noise, out);
+    let status = play(alloc, config, input, noise, out);
     (status, keeper)
 }
 
@@ -70,20 +77,96 @@ fn is_word(word: &Txt) -> bool
     word.is("rehearse")
 }
 
-/// Plays the scenario of the input.
-fn play<I: Source, W: Sink>(alloc: Global, input: &mut I, noise: [u8; 16], out: &mut W) -> Status
-    ensures tells { IfSome (I.left input.old) (λ text. Tells text result (W.taken out.old) (W.taken out.new)) }
+/// Reads the configuration, and plays the scenario of the input under it.
+fn play<S: Source, I: Source, W: Sink>(
+    alloc: Global,
+    config: &mut S,
+    input: &mut I,
+    noise: [u8; 16],
+    out: &mut W,
+) -> Status
+    ensures tells { IfSome (S.left config.old) (λ file. IfSome (I.left input.old) (λ text. TellsOf file text result (W.taken out.old) (W.taken out.new))) }
     ensures done { result ≡ Status.Done → IsAtEnd (I.left input.new) }
     ensures words { (place : ℕ) → result ≡ Status.Words place → ⊥ }
+    ensures config_untouched { (number : ℕ) (path : List ℕ) → result ≡ Status.Config number path → (input.new ≡ input.old) × (out.new ≡ out.old) }
+    ensures read { result ≡ Status.ReadFault → Rose (S.faults config.old) (S.faults config.new) ⊎ Rose (I.faults input.old) (I.faults input.new) }
+    ensures read_writes { result ≡ Status.ReadFault → W.taken out.new ≡ W.taken out.old }
+    ensures write { result ≡ Status.WriteFault → Rose (W.faults out.old) (W.faults out.new) }
+    ensures cause { (line cause : ℕ) → result ≡ Status.BadInput line cause → IsCause cause }
+{
+    let config = match read_config(alloc, config) {
+        Ok(config) => config,
+        Err(status) => return status,
+    };
+    play_under(alloc, &config, input, noise, out)
+}
+
+/// Reads the configuration of a file, or says with which status the call ends.
+fn read_config<S: Source>(alloc: Global, source: &mut S) -> Result<Config, Status>
+    ensures ok { IfOk result (λ config. IfSome (S.left source.old) (λ file. IsConfiguration file config)) }
+    ensures refused { IfErr result (λ status. status ≢ Status.ReadFault → status ≢ Status.NoMemory
+        → IfSome (S.left source.old) (λ file. (refusal : ConfigRefusal) × (IsFirstRefusal file refusal × (status ≡ status_of_refusal refusal)))) }
+    ensures fault { IfErr result (λ status. status ≡ Status.ReadFault → Rose (S.faults source.old) (S.faults source.new)) }
+    ensures other { IfErr result unread }
+{
+    let whole = match read_all(alloc, source, MOST_BYTES) {
+        Ok(whole) => whole,
+        Err(ReadStop::Fault) => return Err(Status::ReadFault),
+        Err(ReadStop::NoMemory) => return Err(Status::NoMemory),
+    };
+    match Config::read(alloc, whole.bytes.inner()) {
+        Ok(config) => Ok(config),
+        Err(refusal) => Err(refused(alloc, &refusal)),
+    }
+}
+
+/// The status of a configuration that is refused.
+fn refused(alloc: Global, refusal: &ConfigRefusal) -> Status
+    ensures said { result ≢ Status.NoMemory → result ≡ status_of_refusal refusal.now }
+    ensures memory { refusal.now ≡ ConfigRefusal.NoMemory → result ≡ Status.NoMemory }
+    ensures other { unread result }
+{
+    if let ConfigRefusal::NoMemory = refusal {
+        return Status::NoMemory;
+    }
+    match path_text(alloc, refusal) {
+        Ok(path) => Status::Config {
+            number: refusal.number(),
+            path,
+        },
+        Err(NoMemory) => Status::NoMemory,
+    }
+}
+
+/// The path of a refusal, and nothing where it has none.
+fn path_text(alloc: Global, refusal: &ConfigRefusal) -> Result<Txt, NoMemory>
+    ensures { IfOk result (λ path. path ≡ unwrap_or (path_of refusal.now) []) }
+{
+    match refusal.path() {
+        Some(path) => path.twin(alloc),
+        None => Ok(Txt::of(String::new(alloc))),
+    }
+}
+
+/// Plays the scenario of the input under a configuration.
+fn play_under<I: Source, W: Sink>(
+    alloc: Global,
+    config: &Config,
+    input: &mut I,
+    noise: [u8; 16],
+    out: &mut W,
+) -> Status
+    ensures tells { config.now ≡ one → IfSome (I.left input.old) (λ text. Tells true text result (W.taken out.old) (W.taken out.new)) }
+    ensures unbuilt { config.now ≢ one → IfSome (I.left input.old) (λ text. Tells false text result (W.taken out.old) (W.taken out.new)) }
+    ensures done { result ≡ Status.Done → IsAtEnd (I.left input.new) }
+    ensures words { (place : ℕ) → result ≡ Status.Words place → ⊥ }
+    ensures config { (number : ℕ) (path : List ℕ) → result ≡ Status.Config number path → ⊥ }
     ensures read { result ≡ Status.ReadFault → Rose (I.faults input.old) (I.faults input.new) }
     ensures read_writes { result ≡ Status.ReadFault → W.taken out.new ≡ W.taken out.old }
     ensures write { result ≡ Status.WriteFault → Rose (W.faults out.old) (W.faults out.new) }
-    ensures cause { (line cause : ℕ) → result ≡ Status.BadInput line cause → (cause ≡ 5) ⊎ (cause ≡ 6) }
+    ensures cause { (line cause : ℕ) → result ≡ Status.BadInput line cause → IsCause cause }
 {
-    let Ok(config) = one(alloc) else {
-        return Status::NoMemory;
-    };
-    let (ending, _keepers) = rehearse(alloc, &config, input, noise, out);
+    let (ending, _keepers) = rehearse(alloc, config, input, noise, out);
     status_by(ending)
 }
 

@@ -5,15 +5,17 @@ mod command;
 mod status;
 #[cfg(test)]
 mod tests;
+#[cfg(test)]
+mod tests_config;
 
 use command::run;
-use sds_base::{Bytes, List, NoMemory, Txt};
-use sds_outside::{MemKeeper, MemLink, MemSource, StdSink, StdSource};
-use status::Status;
+use sds_base::{List, Txt};
+use sds_outside::{FileSource, MemKeeper, MemLink, StdSink, StdSource};
+use status::{Status, refusal_name};
 use std::alloc::Global;
 use std::process::ExitCode;
 use std::random::RandomSource;
-use std::rt::Env;
+use std::rt::{Env, Files};
 use std::{env, io};
 
 /// The words behind the program's name, or why there are none: arguments that aren't UTF-8, or want of memory.
@@ -30,10 +32,13 @@ fn read_words<R: Env + Alloc<A = Global>>(rt: &R) -> Result<Vec<Txt>, Status> {
     Ok(words)
 }
 
-/// Runs the command over standard input and output.
+/// The configuration file, in the folder in which the program is called.
+const CONFIGURATION: &str = "symds.toml";
+
+/// Runs the command over the configuration file and standard input and output.
 fn run_here<R>(rt: &R) -> Status
 where
-    R: Env + Alloc<A = Global> + Input + Print + RandomSource,
+    R: Env + Alloc<A = Global> + Input + Print + RandomSource + Files,
 {
     let words = match read_words(rt) {
         Ok(words) => words,
@@ -44,7 +49,7 @@ where
         return Status::ReadFault;
     }
     let alloc = rt.alloc();
-    let mut config = MemSource::sound(alloc, Bytes::of(Vec::new(alloc)));
+    let mut config = FileSource::open(rt, CONFIGURATION);
     let mut input = StdSource::new(rt.reader());
     let mut link = MemLink::sound(alloc, List::new(alloc));
     let mut out = StdSink::new(io::writer(rt));
@@ -65,25 +70,47 @@ where
 }
 
 /// Tells the status on standard error, where it isn't Done: its name, and in words what it says.
-fn tell<R: Eprint>(rt: &R, status: Status) -> io::Result<()> {
+fn tell<R: Eprint>(rt: &R, status: &Status) -> io::Result<()> {
     let name = status.name();
     eprintln!(rt; "symds: {name}")?;
     match status {
         Status::Words { place } => {
             eprintln!(rt; "  word {place}: the one command is `rehearse`, without further words")
         }
-        Status::BadInput { line, cause: 5 } => {
-            eprintln!(rt; "  line {line}: the first byte past 1 GiB")
+        Status::Config { number, path } => {
+            let refusal = refusal_name(*number);
+            let path = path.as_str();
+            if path.is_empty() {
+                return eprintln!(rt; "  {refusal}: {CONFIGURATION}");
+            }
+            eprintln!(rt; "  {refusal}: {path}")
         }
-        Status::BadInput { line, .. } => eprintln!(rt; "  line {line}: a line that is not built"),
+        Status::ReadFault => {
+            eprintln!(rt; "  {CONFIGURATION} in this folder, or standard input, could not be read")
+        }
+        Status::BadInput { line, cause } => {
+            let why = why(*cause);
+            eprintln!(rt; "  line {line}: {why}")
+        }
         _ => Ok(()),
+    }
+}
+
+/// Why a line may not stand, by the cause's number.
+fn why(cause: u8) -> &'static str {
+    match cause {
+        1 =>
+            "it is no line of fields: a quote or a backslash stands wrong, it is too long, or it is not UTF-8",
+        4 => "the input ends inside a write",
+        5 => "the first byte past 1 GiB",
+        _ => "a line that is not built",
     }
 }
 
 fn main(rt: HostRuntime) -> ExitCode {
     let status = run_here(&rt);
     if status != Status::Done {
-        let _ = tell(&rt, status);
+        let _ = tell(&rt, &status);
     }
     ExitCode::from(status.code())
 }
