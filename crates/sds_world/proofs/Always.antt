@@ -1,9 +1,8 @@
 -- After each event of a scenario its nodes are in step.
-use Rattle.std.proofs.Common.{◌≡◌, ℕ, ◌+◌, zero, suc, Bool, true, false, not, ◌&&◌, ◌==◌, List, [], ◌∷◌, length, map, take, All, Option, None, Some, refl, sym, subst, arith}
+use Rattle.std.proofs.Common.{◌≡◌, ℕ, zero, suc, Bool, true, false, not, ◌&&◌, ◌==◌, List, [], ◌∷◌, length, map, take, All, Option, None, Some, refl, sym, subst, arith}
 use Rattle.std.specs.Prelude.{IfSome}
 use Rattle.std.proofs.lemmas.List.Elements.{All-nil, All-cons}
 use Rattle.sds_line.specs.declared.line.Line.{Line as TextLine}
-use Rattle.sds_line.specs.Splitting.{lines_in}
 use Rattle.sds_line.specs.Written.{are_fields}
 use Rattle.sds_line.proofs.Scalars.{lines_are_of_characters}
 use Rattle.sds_value.specs.declared.row.Peer.{Peer}

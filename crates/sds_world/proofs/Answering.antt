@@ -1,25 +1,21 @@
 -- What a rehearsal is answered and writes, by what was read and played.
-use Rattle.std.proofs.Common.{◌≡◌, ◌≢◌, ◌⊎◌, inl, inr, ℕ, ◌+◌, ◌<◌, ◌≤◌, ◌^◌, Bool, true, false, not, List, [], ◌++◌, length, map, take, Option, None, Some, Result, Err, refl, sym, ap, subst, ◌∙◌, arith, append-nil, length-append}
-use Rattle.std.specs.Prelude.{IfSome, nat_lt, IsTrue, ◌↔◌}
+use Rattle.std.proofs.Common.{◌≡◌, ◌≢◌, ◌⊎◌, inl, inr, ℕ, ◌+◌, ◌<◌, ◌≤◌, ◌^◌, Bool, true, not, List, [], ◌++◌, length, map, take, Option, None, Some, Result, Err, refl, sym, ap, subst, ◌∙◌, arith, append-nil, length-append}
+use Rattle.std.specs.Prelude.{IfSome, nat_lt}
 use Rattle.std.proofs.lemmas.Bool.Decides.{nat_tests}
 use Rattle.std.proofs.lemmas.List.{take-append-le}
-use Rattle.sds_config.specs.declared.config.Config.{Config}
 use Rattle.sds_line.specs.Splitting.{lines_in}
-use Rattle.sds_outside.specs.Told.{before_told, after_told, IsAtEnd}
+use Rattle.sds_outside.specs.Told.{before_told, after_told}
 use Rattle.sds_spec.specs.One.{one}
 use Rattle.sds_spec.specs.Screen.{screen_of}
 use Rattle.sds_spec.specs.World.{empty_world}
 use Rattle.sds_world.specs.declared.rehearsal.BadLine.{BadLine}
 use Rattle.sds_world.specs.declared.rehearsal.WorldRefusal.{WorldRefusal}
 use Rattle.sds_world.specs.declared.rehearsal.WorldRefusal.TheVariants as world_refusal
-use Rattle.sds_world.specs.Played.{most_bytes, is_long, through_last_feed, looked_at, split_of, said, events_from, refusal_from, refusal_of, screen, ending, Shows}
+use Rattle.sds_world.specs.Played.{most_bytes, is_long, through_last_feed, looked_at, said, events_from, refusal_from, refusal_of, screen, ending, Shows}
 
 -- READING
 long_by : (n : ℕ) → 2 ^ 30 < n → nat_lt most_bytes n ≡ true
 long_by n lt = grind (arith, nat_tests)
-
-short_by : (n : ℕ) → n ≤ 2 ^ 30 → nat_lt most_bytes n ≡ false
-short_by n le = grind (arith, nat_tests)
 
 cut_by : (front bytes text rest : List ℕ) → front ≡ through_last_feed (take most_bytes bytes) → text ≡ bytes ++ rest → 2 ^ 30 < length bytes → (front ≡ looked_at text) × (true ≡ is_long text)
 cut_by front bytes text rest is whole over =
@@ -39,20 +35,6 @@ long_read front bytes None None is told over = tt
 long_read front bytes None (Some rest) is told over = tt
 long_read front bytes (Some text) None is told over = absurd (cc)
 long_read front bytes (Some text) (Some rest) is told over = let whole : text ≡ bytes ++ rest = cc in cut_by front bytes text rest is whole over
-
-all_by : (bytes text rest : List ℕ) → text ≡ bytes ++ rest → rest ≡ [] → length bytes ≤ 2 ^ 30 → (bytes ≡ looked_at text) × (false ≡ is_long text)
-all_by bytes text rest whole end within =
-    let all : text ≡ bytes = whole ∙ (ap (λ (l : List ℕ). bytes ++ l) end ∙ append-nil bytes) in
-    let short : is_long text ≡ false = ap is_long all ∙ short_by (length bytes) within in (sym all ∙ sym (looked_short text short), sym short) where
-      looked_short : (text : List ℕ) → is_long text ≡ false → looked_at text ≡ text
-      looked_short text short = rw short refl
-
--- and of any other one
-pub short_read : (bytes : List ℕ) (old new : Option (List ℕ)) → old ≡ before_told bytes new → IsAtEnd new → length bytes ≤ 2 ^ 30 → IfSome old (λ (text : List ℕ). (bytes ≡ looked_at text) × (false ≡ is_long text))
-short_read bytes None None told end within = tt
-short_read bytes None (Some rest) told end within = tt
-short_read bytes (Some text) None told end within = absurd (cc)
-short_read bytes (Some text) (Some rest) told end within = let whole : text ≡ bytes ++ rest = cc in all_by bytes text rest whole end within
 
 -- NOTHING WRITTEN
 unchanged : (told : Option (List ℕ)) → told ≡ after_told told []
@@ -107,17 +89,3 @@ pub shows_all : (is_built : Bool) (o : Option (List ℕ)) (front written : List 
     → IfSome o (λ (text : List ℕ). Shows is_built text result old new)
 shows_all is_built None front written is_over bad result old new is refused shown ends part = tt
 shows_all is_built (Some text) front written is_over bad result old new is refused shown ends part = shows_by is_built text front written is_over bad result old new is refused shown ends part
-
--- BY THE CONFIGURATION: the lines are built exactly under the one
-abbrev ShowsTo : Bool → Option (List ℕ) → Result (Unit {0}) WorldRefusal → Option (List ℕ) → Option (List ℕ) → Type 0
-ShowsTo is_built o result old new = IfSome o (λ (text : List ℕ). Shows is_built text result old new)
-
-pub shows_built : (config : Config) (is_built : Bool) (o : Option (List ℕ)) (result : Result (Unit {0}) WorldRefusal) (old new : Option (List ℕ)) → (IsTrue is_built ↔ (config ≡ one)) → ShowsTo is_built o result old new
-    → config ≡ one → ShowsTo true o result old new
-shows_built config true o result old new same shows is = shows
-shows_built config false o result old new same shows is = let not_true : false ≡ true = same.1 is in absurd (cc)
-
-pub shows_unbuilt : (config : Config) (is_built : Bool) (o : Option (List ℕ)) (result : Result (Unit {0}) WorldRefusal) (old new : Option (List ℕ)) → (IsTrue is_built ↔ (config ≡ one)) → ShowsTo is_built o result old new
-    → config ≢ one → ShowsTo false o result old new
-shows_unbuilt config true o result old new same shows other = absurd (other (same.0 refl))
-shows_unbuilt config false o result old new same shows other = shows

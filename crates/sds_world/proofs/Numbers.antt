@@ -8,10 +8,9 @@ use Rattle.std.specs.List.{list_all}
 use Rattle.std.specs.Result.{result_ok}
 use Rattle.std.specs.Str.{IsAscii, IsUtf8, chars}
 use Rattle.std.specs.Str.Parse.{ParsesUnsigned}
-use Rattle.sds_value.specs.declared.row.Field.{Field}
 use Rattle.sds_value.specs.Values.{digits_value}
 use Rattle.sds_value.proofs.Characters.{all_small, digit_small, right_true, same_test}
-use Rattle.sds_world.specs.Scenario.{is_number, given_of}
+use Rattle.sds_world.specs.Scenario.{is_number}
 
 own : IsNumeralModel (λ ds. list_all is_ascii_digit ds ≡ true) digits_value
 own = numerals_by_weight _ (search rules) digits_value (search rules)
@@ -52,12 +51,3 @@ pub of_characters : (bytes text : List ℕ) (o : Option ℕ) → IsUtf8 bytes �
 of_characters bytes text None utf8 is read = ap is_number (sym is) ∙ (sym (same_test is_number number_ascii bytes utf8) ∙ read)
 of_characters bytes text (Some n) utf8 is read =
     let same : bytes ≡ text = sym (chars-IsAscii bytes (number_ascii bytes read.0)) ∙ is in subst (λ (l : List ℕ). (is_number l ≡ true) × (n ≡ digits_value l)) same read
-
--- only four fields are a line with fields of its own
-pub not_four : (fields : List Field) → (length fields ≡ 4 → ⊥) → None ≡ given_of fields
-not_four [] other = refl
-not_four (a ∷ []) other = refl
-not_four (a ∷ b ∷ []) other = refl
-not_four (a ∷ b ∷ c ∷ []) other = refl
-not_four (a ∷ b ∷ c ∷ d ∷ []) other = absurd (other (omega arith))
-not_four (a ∷ b ∷ c ∷ d ∷ e ∷ fields) other = refl

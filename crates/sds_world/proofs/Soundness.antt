@@ -2,7 +2,6 @@
 use Rattle.std.proofs.Common.{◌≡◌, ℕ, Bool, true, false, ◌&&◌, List, [], ◌∷◌, ◌++◌, Option, None, Some, All, refl, sym, ap, ◌∙◌, codes, inl, inr, Result, Ok, Err}
 use Rattle.std.specs.Prelude.{if◌then◌else◌, IfSome, is_ok, unwrap_or}
 use Rattle.std.specs.Option.{option_map}
-use Rattle.std.specs.List.{list_all}
 use Rattle.std.specs.Str.{all_scalars, chars, IsUtf8}
 use Rattle.std.proofs.lemmas.Str.{scalars-chars}
 use Rattle.std.proofs.lemmas.List.Elements.{All-cons, All-nil, All-append}
@@ -24,10 +23,10 @@ use Rattle.sds_world.specs.declared.line.Line.TheVariants.{Opening, Write, Row, 
 use Rattle.sds_world.specs.declared.line.Opening.TheVariants.{Corp, Store, Open, Register}
 use Rattle.sds_world.specs.declared.place.Draft.{Draft}
 use Rattle.sds_world.specs.declared.place.Place.{Place}
-use Rattle.sds_world.specs.Looking.{behind, completed, with_row, written}
+use Rattle.sds_world.specs.Looking.{behind, with_row}
 use Rattle.sds_world.specs.Scenario.{is_number, is_printed_as, is_key, is_short, row_of, write_of, insert_of, given_of, opening_of, step_of, or_else, line_of}
 use Rattle.sds_world.specs.Words.{is_word}
-use Rattle.sds_world.specs.Sound.{IsSoundLine, IsSoundDraft, IsSoundPlace, IsSoundEvent}
+use Rattle.sds_world.specs.Sound.{IsSoundLine, IsSoundDraft, IsSoundPlace}
 
 abbrev Says : Option Line → Type 0
 Says None = Unit {0}
@@ -141,24 +140,6 @@ behind-sound place Route sound may = sound
 behind-sound place Push sound may = sound
 behind-sound place (Show node) sound may = sound
 behind-sound place Other sound may = sound
-
-completed_write : (draft : Option Draft) → IfSome draft IsSoundDraft → IfSome (option_map written draft) IsSoundEvent
-completed_write None sound = tt
-completed_write (Some draft) sound = (sound.named, sound.rows)
-
--- and so is what it makes happen
-pub completed-sound : (place : Place) (line : Line) → IsSoundPlace place → IfSome (completed place line) IsSoundEvent
-completed-sound place (Opening Corp) sound = tt
-completed-sound place (Opening Store) sound = tt
-completed-sound place (Opening Open) sound = tt
-completed-sound place (Opening Register) sound = tt
-completed-sound place (Write writer number) sound = tt
-completed-sound place (Row row) sound = tt
-completed-sound place End sound = completed_write place.draft sound
-completed-sound place Route sound = tt
-completed-sound place Push sound = tt
-completed-sound place (Show node) sound = tt
-completed-sound place Other sound = tt
 
 -- the characters of a text in UTF-8 are characters
 pub characters_by : (bytes text : List ℕ) → IsUtf8 bytes → chars bytes ≡ text → all_scalars text ≡ true

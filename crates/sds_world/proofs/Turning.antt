@@ -1,13 +1,13 @@
 -- The lines of a scenario, one after another, as its text comes.
 use Rattle.std.proofs.Common.{◌≡◌, ◌≢◌, ℕ, ◌+◌, ◌<◌, ◌≤◌, ◌^◌, Bool, true, false, not, ◌&&◌, List, [], ◌∷◌, ◌++◌, length, map, Option, None, Some, Result, Ok, Err, refl, sym, ap, subst, ◌∙◌, arith, append-nil, append_assoc, length-append}
-use Rattle.std.specs.Prelude.{if◌then◌else◌, is_some}
+use Rattle.std.specs.Prelude.{is_some}
 use Rattle.std.specs.Option.{option_map_or}
 use Rattle.std.proofs.lemmas.List.{append_cancel_left}
 use Rattle.sds_base.specs.declared.memory.NoMemory.{NoMemory}
 use Rattle.sds_line.specs.declared.line.Line.{Line as TextLine}
 use Rattle.sds_line.specs.declared.refusal.LineRefusal.{LineRefusal}
 use Rattle.sds_line.specs.declared.refusal.LineRefusal.TheVariants as line_refusal
-use Rattle.sds_line.specs.Splitting.{Split, Fed, Follows, Answers, IsEnd, behind, is_finished, left, lines_in, next_number, number_or}
+use Rattle.sds_line.specs.Splitting.{Split, Fed, Follows, Answers, IsEnd, is_finished, left, lines_in, next_number, number_or}
 use Rattle.sds_spec.specs.declared.event.WorldEvent.{WorldEvent}
 use Rattle.sds_spec.specs.One.{one}
 use Rattle.sds_spec.specs.Screen.{printed_by, screen_of}
@@ -18,36 +18,13 @@ use Rattle.sds_world.specs.declared.place.Place.{Place}
 use Rattle.sds_world.specs.declared.rehearsal.BadLine.{BadLine}
 use Rattle.sds_world.specs.declared.stage.Stage.{Stage}
 use Rattle.sds_world.specs.Games.{Reads, IsFront, Goes, Ends, GoesOn, Plays}
-use Rattle.sds_world.specs.Looking.{start, completed, place_of}
+use Rattle.sds_world.specs.Looking.{completed, place_of}
 use Rattle.sds_world.specs.Played.{said, world_by, world_of, may_stand, onto_events, events_from, end_refusal, refusal_from}
-use Rattle.sds_world.specs.Shapes.{Shaped, Behind, printed_line}
+use Rattle.sds_world.specs.Shapes.{Behind, printed_line}
 use Rattle.sds_world.proofs.Fronts.{more_front, same_front, end_front, few_enough}
-use Rattle.sds_world.proofs.Shaping.{shaped_first}
 
 pub none_left : (front xs : List TextLine) → front ++ xs ≡ front → xs ≡ []
 none_left front xs is = append_cancel_left front xs [] (is ∙ sym (append-nil front))
-
--- A GAME that begins
-pub at_start : (is_over : Bool) (whole : Split) (game : Game) → game.place ≡ start → game.stage.nodes.items ≡ [] → game.stage.peers.items ≡ [] → game.stage.messages ≡ 0 → game.stage.replies ≡ 0 → game.screen.items ≡ []
-    → Goes is_over whole [] game
-at_start is_over whole game is nodes peers messages replies none =
-    let openings : game.place.openings ≡ 0 = ap (λ (p : Place). p.openings) is in
-    record {
-      rest = whole.lines;
-      lines = refl;
-      older = [];
-      count = refl;
-      behind = record {
-        is = is;
-        shaped = subst (λ (p : Place). Shaped p empty_world 0) (sym is) shaped_first;
-        plays = record {
-          waits = λ lt. record { none = nodes; peers = peers; messages = messages; replies = replies };
-          stands = λ four. absurd (omega (arith, four, openings));
-        };
-      };
-      shown = ap (λ (l : List ℕ). l ++ screen_of one empty_world (events_from game.is_built [] (map said whole.lines))) none;
-      refused = refl;
-    }
 
 screen_onto : (w : World) (o : Option WorldEvent) (events : List WorldEvent) → screen_of one w (onto_events o events) ≡ option_map_or (printed_by one w) o [] ++ screen_of one (world_by o w) events
 screen_onto w None events = refl
@@ -275,9 +252,6 @@ piece_played is_over whole text fed piece rest later reader given next old new r
 
 pub piece_fed : (text fed piece rest later : List ℕ) → fed ++ rest ≡ text → rest ≡ piece ++ later → (fed ++ piece) ++ later ≡ text
 piece_fed text fed piece rest later is parts = append_assoc fed piece later ∙ (ap (λ (l : List ℕ). fed ++ l) (sym parts) ∙ is)
-
-pub nothing_played : (is_over : Bool) (whole : Split) (reader : Fed) (game : Game) → Follows [] [] false reader → Goes is_over whole [] game → GoesOn is_over whole [] false game reader
-nothing_played is_over whole reader game f g = record { taken = []; follows = f; all = record { all = refl; behind_all = refl }; goes = g }
 
 pub all_played : (is_over : Bool) (whole : Split) (text fed rest : List ℕ) (reader : Fed) (game : Game) → fed ++ rest ≡ text → rest ≡ [] → GoesOn is_over whole fed false game reader → GoesOn is_over whole text false game reader
 all_played is_over whole text fed rest reader game is none g =

@@ -1,8 +1,8 @@
 -- What holds of a game that plays the lines of a text as the text comes.
-use Rattle.std.specs.Prelude.{◌≡◌, ℕ, ◌<◌, ◌^◌, Bool, true, is_some, List, [], ◌++◌, length, map, Option, None, Some, Result, Ok, Err}
+use Rattle.std.specs.Prelude.{◌≡◌, ℕ, Bool, true, is_some, List, [], ◌++◌, length, map, Option, None, Some, Result, Ok, Err}
 use Rattle.sds_base.specs.declared.memory.NoMemory.{NoMemory}
 use Rattle.sds_line.specs.declared.line.Line.{Line as TextLine}
-use Rattle.sds_line.specs.Splitting.{Split, Fed, Follows, IsEnd, lines_in}
+use Rattle.sds_line.specs.Splitting.{Split, Fed, Follows, IsEnd}
 use Rattle.sds_spec.specs.One.{one}
 use Rattle.sds_spec.specs.Screen.{screen_of}
 use Rattle.sds_spec.specs.World.{empty_world}

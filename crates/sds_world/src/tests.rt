@@ -56,11 +56,11 @@ fn row_words(alloc: Global, row: &TxRow) -> Result<String, NoMemory> {
         [Field::Text(key), Field::Text(text)] => {
             let key = key.as_str();
             let text = text.as_str();
-            Ok(format!(in alloc; "row {key} {text}")?)
+            Ok(format!(in alloc; "insert {key} {text}")?)
         }
         [Field::Text(key), Field::Null] => {
             let key = key.as_str();
-            Ok(format!(in alloc; "row {key} null")?)
+            Ok(format!(in alloc; "insert {key} null")?)
         }
         _ => Ok(String::from_str(alloc, "another row")?),
     }
@@ -80,15 +80,15 @@ register,s1,corp => Register
 node,s1,store,1 => other
 node,s1,corp,001 => other
 register,corp,s1 => other
-insert,pair,2,Ink => row 2 Ink
-insert , pair,\t2 , Blue ink \r => row 2 Blue ink
-insert,pair,2, => row 2 null
-insert,pair,2,  => row 2 null
-insert,pair,2,# => row 2 #
-insert,pair,0,Ink => row 0 Ink
-insert,pair,-7,Ink => row -7 Ink
-insert,pair,9223372036854775807,Ink => row 9223372036854775807 Ink
-insert,pair,-9223372036854775808,Ink => row -9223372036854775808 Ink
+insert,pair,2,Ink => insert 2 Ink
+insert , pair,\t2 , Blue ink \r => insert 2 Blue ink
+insert,pair,2, => insert 2 null
+insert,pair,2,  => insert 2 null
+insert,pair,2,# => insert 2 #
+insert,pair,0,Ink => insert 0 Ink
+insert,pair,-7,Ink => insert -7 Ink
+insert,pair,9223372036854775807,Ink => insert 9223372036854775807 Ink
+insert,pair,-9223372036854775808,Ink => insert -9223372036854775808 Ink
 insert,pair,9223372036854775808,Ink => other
 insert,pair,+7,Ink => other
 insert,pair,007,Ink => other
@@ -102,10 +102,10 @@ insert,pairs,2,Ink => other
 insert,,2,Ink => other
 update,pair,2,Ink => other
 Insert,pair,2,Ink => other
-insert,pair,2,\"Ink\" => row 2 Ink
-\"insert\", \"pair\",\"2\"\t,\" Blue, ink \" => row 2  Blue, ink 
-insert,pair,2,\"6\\\" of \\\\\" => row 2 6\" of \\
-insert,pair,2,\"\" => row 2 
+insert,pair,2,\"Ink\" => insert 2 Ink
+\"insert\", \"pair\",\"2\"\t,\" Blue, ink \" => insert 2  Blue, ink 
+insert,pair,2,\"6\\\" of \\\\\" => insert 2 6\" of \\
+insert,pair,2,\"\" => insert 2 
 insert,pair,\" 2\",Ink => other
 insert,pair,\"\",Ink => other
 \"insert \",pair,2,Ink => other
@@ -190,7 +190,7 @@ fn a_text_has_at_most_40_characters(rt: HostRuntime) -> Result<(), Fail> {
     let wide = wide.as_str();
     for text in [FORTY, wide] {
         let line = format!(in alloc; "insert,pair,2,{text}")?;
-        let words = format!(in alloc; "row 2 {text}")?;
+        let words = format!(in alloc; "insert 2 {text}")?;
         assert_eq!(rt; said(alloc, line.as_str())?.as_str(), words.as_str());
         let longer = format!(in alloc; "insert,pair,2,{text}e")?;
         assert_eq!(rt; said(alloc, longer.as_str())?.as_str(), "other", "{text}");
