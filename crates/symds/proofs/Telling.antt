@@ -6,12 +6,12 @@ use Rattle.sds_config.specs.declared.refusal.ConfigRefusal.{ConfigRefusal}
 use Rattle.sds_config.specs.Configuration.{IsConfiguration, IsFirstRefusal}
 use Rattle.sds_config.proofs.OneReading.{one_configuration, not_both, one_refusal}
 use Rattle.sds_outside.specs.Told.{after_told}
-use Rattle.sds_spec.specs.One.{one}
-use Rattle.sds_world.specs.declared.rehearsal.BadLine.{BadLine}
-use Rattle.sds_world.specs.declared.rehearsal.WorldRefusal.{WorldRefusal}
-use Rattle.sds_world.specs.declared.rehearsal.WorldRefusal.TheVariants as refusal
-use Rattle.sds_world.specs.Played.{refusal_of, screen, ending, Shows}
-use Rattle.sds_world.proofs.Answering.{unshown}
+use Rattle.sds_first_spec.specs.One.{one}
+use Rattle.sds_first_world.specs.declared.rehearsal.BadLine.{BadLine}
+use Rattle.sds_first_world.specs.declared.rehearsal.WorldRefusal.{WorldRefusal}
+use Rattle.sds_first_world.specs.declared.rehearsal.WorldRefusal.TheVariants as refusal
+use Rattle.sds_first_world.specs.Played.{refusal_of, screen, ending, Shows}
+use Rattle.sds_first_world.proofs.Answering.{unshown}
 use Rattle.symds.specs.declared.status.Status.{Status}
 use Rattle.symds.specs.declared.status.Status.TheVariants as status
 use Rattle.symds.specs.Configured.{TellsOf, status_of_refusal, unread}

@@ -4,7 +4,7 @@ use Rattle.sds_config.specs.declared.config.Config.{Config}
 use Rattle.sds_config.specs.declared.refusal.ConfigRefusal.{ConfigRefusal}
 use Rattle.sds_config.specs.Configuration.{IsConfiguration, IsFirstRefusal}
 use Rattle.sds_config.specs.Refusals.{number_of, path_of}
-use Rattle.sds_spec.specs.One.{one}
+use Rattle.sds_first_spec.specs.One.{one}
 use Rattle.symds.specs.declared.status.Status.{Status}
 use Rattle.symds.specs.declared.status.Status.TheVariants as status
 use Rattle.symds.specs.Rehearsed.{Tells}

@@ -1,10 +1,10 @@
 -- The status of a rehearsal, and what it writes.
 use Rattle.std.specs.Prelude.{◌≡◌, ◌≢◌, ℕ, Bool, ◌≤◌, List, length, take, Option, None, Some, Result, Ok, Err}
 use Rattle.sds_outside.specs.Told.{after_told}
-use Rattle.sds_world.specs.declared.rehearsal.BadLine.{BadLine}
-use Rattle.sds_world.specs.declared.rehearsal.WorldRefusal.{WorldRefusal}
-use Rattle.sds_world.specs.declared.rehearsal.WorldRefusal.TheVariants as refusal
-use Rattle.sds_world.specs.Played.{refusal_of, screen}
+use Rattle.sds_first_world.specs.declared.rehearsal.BadLine.{BadLine}
+use Rattle.sds_first_world.specs.declared.rehearsal.WorldRefusal.{WorldRefusal}
+use Rattle.sds_first_world.specs.declared.rehearsal.WorldRefusal.TheVariants as refusal
+use Rattle.sds_first_world.specs.Played.{refusal_of, screen}
 use Rattle.symds.specs.declared.status.Status.{Status}
 use Rattle.symds.specs.declared.status.Status.TheVariants.{Done, ReadFault, WriteFault, NoMemory, BadInput}
 

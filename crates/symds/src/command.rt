@@ -4,11 +4,11 @@ ghost use Rattle.sds_config.specs.Configuration.{IsConfiguration, IsFirstRefusal
 ghost use Rattle.sds_config.specs.Refusals.{path_of};
 ghost use Rattle.sds_outside.specs.Causes.{Rose};
 ghost use Rattle.sds_outside.specs.Told.{IsAtEnd};
-ghost use Rattle.sds_spec.specs.Happens.{world_after};
-ghost use Rattle.sds_spec.specs.InStep.{InStep};
-ghost use Rattle.sds_spec.specs.One.{one};
-ghost use Rattle.sds_spec.specs.World.{empty_world};
-ghost use Rattle.sds_world.specs.Played.{IsCause, events_of};
+ghost use Rattle.sds_first_spec.specs.Happens.{world_after};
+ghost use Rattle.sds_first_spec.specs.InStep.{InStep};
+ghost use Rattle.sds_first_spec.specs.One.{one};
+ghost use Rattle.sds_first_spec.specs.World.{empty_world};
+ghost use Rattle.sds_first_world.specs.Played.{IsCause, events_of};
 ghost use Rattle.symds.specs.Configured.{TellsOf, status_of_refusal, unread};
 ghost use Rattle.symds.specs.Rehearsed.{status_by, Tells};
 ghost use Rattle.symds.specs.Words.{is_rehearse};
@@ -17,7 +17,7 @@ use crate::status::Status;
 use sds_base::{NoMemory, Twin, Txt};
 use sds_config::{Config, ConfigRefusal};
 use sds_outside::{Keeper, Link, ReadStop, Sink, Source, read_all};
-use sds_world::{WorldRefusal, rehearse};
+use sds_first_world::{WorldRefusal, rehearse};
 use std::alloc::Global;
 
 /// How many bytes of a configuration file are read at most: 1 MiB, and some more of a file that is longer, which is refused.

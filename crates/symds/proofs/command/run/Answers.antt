@@ -1,4 +1,4 @@
-use Rattle.sds_world.proofs.Always.{always_told}
+use Rattle.sds_first_world.proofs.Always.{always_told}
 use Rattle.symds.proofs.command.run.Goals as goal
 
 pub returns-then-not-is_rehearse-clause-in_step : goal.returns-then-not-is_rehearse-clause-in_step

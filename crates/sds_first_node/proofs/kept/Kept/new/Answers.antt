@@ -1,0 +1,8 @@
+use Rattle.std.proofs.Common.{◌≡◌, refl, [], ap, ◌∙◌}
+use Rattle.std.specs.Str.{chars}
+use Rattle.std.proofs.lemmas.Str.{chars-nil}
+use Rattle.sds_first_node.proofs.kept.Kept.new.Goals as goal
+
+pub returns : goal.returns
+returns c = let none : c.of.result ≡ [] = c.of.ensures ∙ (ap chars c.new.ensures.bytes ∙ chars-nil) in
+    rw (none, c.new-2.ensures.items, c.new-3.ensures.items, c.new-4.ensures.items, c.new-5.ensures.items, c.new-6.ensures.items) refl

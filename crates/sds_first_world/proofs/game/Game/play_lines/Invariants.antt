@@ -1,0 +1,21 @@
+use Rattle.std.proofs.Common.{◌≡◌, ◌<◌, ◌^◌, ℕ, Bool, false, List, length}
+use Rattle.sds_line.specs.declared.line.Line.{Line as TextLine}
+use Rattle.sds_line.specs.Splitting.{Split, Follows, is_finished, left, lines_in, reach}
+use Rattle.sds_first_world.specs.Games.{Reads, IsFront, Goes}
+use Rattle.sds_first_world.specs.Sound.{IsSoundPlace}
+use Rattle.sds_first_world.proofs.Turning.{Midway}
+use Rattle.sds_first_world.proofs.game.Game.play_lines.Given as goal
+
+abbrev pub invariant-loop-line : goal.invariant-loop-line
+invariant-loop-line l = record {
+  reads : Reads l.lines;
+  place : IsSoundPlace l.self.place;
+  built : l.self.is_built ≡ l.initial.self.is_built;
+  phase : is_finished l.initial.lines.phase ≡ false → is_finished l.lines.phase ≡ false;
+  reach : is_finished l.initial.lines.phase ≡ false → reach l.lines.split ≡ reach l.initial.lines.split;
+  plays : (text : List ℕ) (taken : List TextLine) (finished is_over : Bool) (whole : Split) → IsFront (lines_in finished text) whole → length whole.lines < 2 ^ 62
+      → Follows text taken finished l.initial.lines → Goes is_over whole taken l.initial.self → Midway is_over whole text finished l.lines l.self;
+}
+
+abbrev pub decreases-loop-line : goal.decreases-loop-line
+decreases-loop-line l = length (left l.lines).lines

@@ -1,5 +1,0 @@
-use Rattle.sds_laws.proofs.Link.{in_step}
-use Rattle.sds_laws.proofs.lanes.lanes_stay_in_step.Goals as goal
-
-pub returns : goal.returns
-returns c = in_step

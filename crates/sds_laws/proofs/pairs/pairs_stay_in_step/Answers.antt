@@ -1,5 +1,0 @@
-use Rattle.sds_laws.proofs.PairEvents.{stay_in_step}
-use Rattle.sds_laws.proofs.pairs.pairs_stay_in_step.Goals as goal
-
-pub returns : goal.returns
-returns c = stay_in_step

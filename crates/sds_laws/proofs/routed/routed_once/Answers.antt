@@ -1,5 +1,0 @@
-use Rattle.sds_laws.proofs.Once.{stays_once}
-use Rattle.sds_laws.proofs.routed.routed_once.Goals as goal
-
-pub returns : goal.returns
-returns c = stays_once

@@ -1,5 +1,0 @@
-use Rattle.sds_laws.proofs.Numbers.{in_order}
-use Rattle.sds_laws.proofs.writers.writers_stay_in_order.Goals as goal
-
-pub returns : goal.returns
-returns c = in_order

@@ -1,6 +1,0 @@
-use Rattle.std.proofs.Common.{◌≡◌, drop}
-use Rattle.sds_spec.specs.Acks.{last_error}
-use Rattle.sds_node.proofs.acking.last_error.Given as goal
-
-abbrev pub invariant-loop-ack : goal.invariant-loop-ack
-invariant-loop-ack l = last_error (drop l.ack-index l.acks) l.id l.standing ≡ last_error l.acks l.id l.fn.before

@@ -1,5 +1,0 @@
-use Rattle.sds_spec.proofs.CutLaw.{cut_is_cut}
-use Rattle.sds_spec.proofs.laws.cut_is_the_cut.Goals as goal
-
-pub returns : goal.returns
-returns c = cut_is_cut

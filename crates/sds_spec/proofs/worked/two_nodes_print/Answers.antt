@@ -1,5 +1,0 @@
-use Rattle.sds_spec.proofs.TwoNodesComputed.{screen-two_nodes}
-use Rattle.sds_spec.proofs.worked.two_nodes_print.Goals as goal
-
-pub returns : goal.returns
-returns c = screen-two_nodes
