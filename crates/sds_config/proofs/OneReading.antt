@@ -1,8 +1,8 @@
 -- A file writes one configuration, or has one first refusal.
 use Rattle.std.proofs.Common.{◌≡◌, inl, inr, ℕ, ◌<◌, ◌≤◌, ◌^◌, List, length, Some, Result, Ok, Err, sym, ap, ◌∙◌, arith}
 use Rattle.toml.specs.Data.{Members}
-use Rattle.sds_config.specs.declared.config.Config.{Config}
-use Rattle.sds_config.specs.declared.refusal.ConfigRefusal.{ConfigRefusal}
+use Rattle.sds_types.specs.declared.config.Config.{Config}
+use Rattle.sds_types.specs.declared.config_refusal.ConfigRefusal.{ConfigRefusal}
 use Rattle.sds_config.specs.Configuration.{config_of, IsTree, IsConfiguration, IsFirstRefusal}
 
 some_same : (a b : Members) → Some a ≡ Some b → a ≡ b

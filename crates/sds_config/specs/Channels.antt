@@ -1,9 +1,9 @@
 -- The section `channel`: the streams of batches.
 use Rattle.std.specs.Prelude.{ℕ, List, [], ◌∷◌, codes, Result, Ok}
 use Rattle.toml.specs.Data.{Members}
-use Rattle.sds_config.specs.declared.config.Config.{Config}
-use Rattle.sds_config.specs.declared.config.ChannelDef.{ChannelDef}
-use Rattle.sds_config.specs.declared.refusal.ConfigRefusal.{ConfigRefusal}
+use Rattle.sds_types.specs.declared.config.Config.{Config}
+use Rattle.sds_types.specs.declared.channel.ChannelDef.{ChannelDef}
+use Rattle.sds_types.specs.declared.config_refusal.ConfigRefusal.{ConfigRefusal}
 use Rattle.sds_config.specs.Refusals.{and_then}
 use Rattle.sds_config.specs.Fields.{only_keys, id_at, number_at, word_at}
 use Rattle.sds_config.specs.Words.{algorithm_of}

@@ -2,11 +2,11 @@
 use Rattle.std.specs.Prelude.{ℕ, List, [], ◌∷◌, Option, Some, option_map, option_and_then}
 use Rattle.std.specs.Str.{encode_utf8_all}
 use Rattle.sds_expressions.specs.Computed.{left_of, substr_of, value_map_of, variable_of, multiplier_of}
-use Rattle.sds_config.specs.declared.convert.ColumnExpression.{ColumnExpression}
-use Rattle.sds_config.specs.declared.convert.ColumnExpression.TheVariants as says
-use Rattle.sds_config.specs.declared.convert.ColumnKind.{ColumnKind}
-use Rattle.sds_config.specs.declared.convert.ColumnKind.TheVariants.{Copy, Remove, Const, Left, Substr, ValueMap, Variable, Additive}
-use Rattle.sds_config.specs.declared.convert.TransformColumn.{TransformColumn}
+use Rattle.sds_types.specs.declared.transform_column.ColumnExpression.{ColumnExpression}
+use Rattle.sds_types.specs.declared.transform_column.ColumnExpression.TheVariants as says
+use Rattle.sds_types.specs.declared.transform_column.ColumnKind.{ColumnKind}
+use Rattle.sds_types.specs.declared.transform_column.ColumnKind.TheVariants.{Copy, Remove, Const, Left, Substr, ValueMap, Variable, Additive}
+use Rattle.sds_types.specs.declared.transform_column.TransformColumn.{TransformColumn}
 use Rattle.sds_config.specs.declared.formulas.ColumnEntry.{ColumnEntry}
 
 -- what an expression of this type says, if it is of the type's form, which is one of its bytes in UTF-8

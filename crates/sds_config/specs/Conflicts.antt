@@ -7,14 +7,14 @@ use Rattle.sds_value.specs.declared.kind.Kind.{Kind}
 use Rattle.sds_value.specs.declared.kind.Kind.TheVariants as kind
 use Rattle.sds_value.specs.declared.table.ColumnDef.{ColumnDef}
 use Rattle.sds_value.specs.declared.table.TableDef.{TableDef}
-use Rattle.sds_config.specs.declared.config.Config.{Config}
-use Rattle.sds_config.specs.declared.convert.ConflictDef.{ConflictDef}
-use Rattle.sds_config.specs.declared.convert.DetectType.{DetectType}
-use Rattle.sds_config.specs.declared.convert.DetectType.TheVariants.{UseTimestamp, UseVersion}
-use Rattle.sds_config.specs.declared.convert.ResolveType.{ResolveType}
-use Rattle.sds_config.specs.declared.convert.ResolveType.TheVariants.{NewerWins}
-use Rattle.sds_config.specs.declared.refusal.ConfigRefusal.{ConfigRefusal}
-use Rattle.sds_config.specs.declared.refusal.ConfigRefusal.TheVariants.{BadSetting, Duplicate, NoLink}
+use Rattle.sds_types.specs.declared.config.Config.{Config}
+use Rattle.sds_types.specs.declared.conflict.ConflictDef.{ConflictDef}
+use Rattle.sds_types.specs.declared.conflict.DetectType.{DetectType}
+use Rattle.sds_types.specs.declared.conflict.DetectType.TheVariants.{UseTimestamp, UseVersion}
+use Rattle.sds_types.specs.declared.conflict.ResolveType.{ResolveType}
+use Rattle.sds_types.specs.declared.conflict.ResolveType.TheVariants.{NewerWins}
+use Rattle.sds_types.specs.declared.config_refusal.ConfigRefusal.{ConfigRefusal}
+use Rattle.sds_types.specs.declared.config_refusal.ConfigRefusal.TheVariants.{BadSetting, Duplicate, NoLink}
 use Rattle.sds_config.specs.declared.conflicts.Detect.{Detect}
 use Rattle.sds_config.specs.declared.conflicts.Resolve.{Resolve}
 use Rattle.sds_config.specs.Ends.{ends_at}

@@ -2,7 +2,7 @@
 use Rattle.std.specs.Prelude.{ℕ, List, codes, Result, Ok}
 use Rattle.toml.specs.Data.{Members}
 use Rattle.sds_config.specs.declared.ends.Ends.{Ends}
-use Rattle.sds_config.specs.declared.refusal.ConfigRefusal.{ConfigRefusal}
+use Rattle.sds_types.specs.declared.config_refusal.ConfigRefusal.{ConfigRefusal}
 use Rattle.sds_config.specs.Refusals.{and_then}
 use Rattle.sds_config.specs.Fields.{place_at}
 

@@ -5,8 +5,8 @@ use Rattle.std.specs.Fmt.{decimal}
 use Rattle.std.specs.Str.{bytes_eq, chars}
 use Rattle.toml.specs.Data.{Data, Members, no_members, member, get_member, as_str, as_integer, as_bool}
 use Rattle.sds_value.specs.Names.{is_name_text}
-use Rattle.sds_config.specs.declared.refusal.ConfigRefusal.{ConfigRefusal}
-use Rattle.sds_config.specs.declared.refusal.ConfigRefusal.TheVariants.{MissingEntry, WrongType, BadSetting, Duplicate, UnknownName}
+use Rattle.sds_types.specs.declared.config_refusal.ConfigRefusal.{ConfigRefusal}
+use Rattle.sds_types.specs.declared.config_refusal.ConfigRefusal.TheVariants.{MissingEntry, WrongType, BadSetting, Duplicate, UnknownName}
 use Rattle.sds_config.specs.Refusals.{and_then}
 
 -- the path of a section's entry, as `channel[0]`

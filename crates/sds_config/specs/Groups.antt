@@ -1,8 +1,8 @@
 -- The section `group`: the node groups, each an id.
 use Rattle.std.specs.Prelude.{ℕ, List, [], ◌∷◌, codes, Result}
 use Rattle.toml.specs.Data.{Members}
-use Rattle.sds_config.specs.declared.config.Config.{Config}
-use Rattle.sds_config.specs.declared.refusal.ConfigRefusal.{ConfigRefusal}
+use Rattle.sds_types.specs.declared.config.Config.{Config}
+use Rattle.sds_types.specs.declared.config_refusal.ConfigRefusal.{ConfigRefusal}
 use Rattle.sds_config.specs.Refusals.{and_then}
 use Rattle.sds_config.specs.Fields.{only_keys, id_at}
 

@@ -1,6 +1,6 @@
 -- How many entries the sections have at most.
 use Rattle.std.specs.Prelude.{◌≤◌, length}
-use Rattle.sds_config.specs.declared.config.Config.{Config}
+use Rattle.sds_types.specs.declared.config.Config.{Config}
 
 -- a place in a section that others refer to fits in any number of the file
 pub record IsWithinLimits (config : Config) : Type 0 where

@@ -3,10 +3,10 @@ use Rattle.std.specs.Prelude.{ℕ, Bool, ◌&&◌, ◌==◌, if◌then◌else◌
 use Rattle.std.specs.List.{list_any}
 use Rattle.std.specs.Str.{chars}
 use Rattle.toml.specs.Data.{Members}
-use Rattle.sds_config.specs.declared.config.Config.{Config}
-use Rattle.sds_config.specs.declared.config.LinkDef.{LinkDef}
-use Rattle.sds_config.specs.declared.refusal.ConfigRefusal.{ConfigRefusal}
-use Rattle.sds_config.specs.declared.refusal.ConfigRefusal.TheVariants.{Duplicate}
+use Rattle.sds_types.specs.declared.config.Config.{Config}
+use Rattle.sds_types.specs.declared.link.LinkDef.{LinkDef}
+use Rattle.sds_types.specs.declared.config_refusal.ConfigRefusal.{ConfigRefusal}
+use Rattle.sds_types.specs.declared.config_refusal.ConfigRefusal.TheVariants.{Duplicate}
 use Rattle.sds_config.specs.Refusals.{and_then}
 use Rattle.sds_config.specs.Fields.{only_keys, place_at, word_at}
 use Rattle.sds_config.specs.Words.{action_of}

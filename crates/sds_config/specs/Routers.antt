@@ -7,20 +7,20 @@ use Rattle.sds_value.specs.declared.table.TableDef.{TableDef}
 use Rattle.sds_expressions.specs.ColumnTests.{tests_of}
 use Rattle.sds_expressions.specs.Lookups.{lookup_read}
 use Rattle.sds_expressions.specs.Subselects.{subselect_of}
-use Rattle.sds_expressions.specs.declared.lookup.Lookup.{Lookup}
-use Rattle.sds_expressions.specs.declared.subselect.Compared.{Compared}
-use Rattle.sds_expressions.specs.declared.subselect.Compared.TheVariants.{Routed, Text}
-use Rattle.sds_expressions.specs.declared.subselect.Condition.{Condition}
-use Rattle.sds_expressions.specs.declared.subselect.Subselect.{Subselect as Choice}
-use Rattle.sds_expressions.specs.declared.tested.ColumnTest.{ColumnTest}
-use Rattle.sds_config.specs.declared.config.Config.{Config}
-use Rattle.sds_config.specs.declared.refusal.ConfigRefusal.{ConfigRefusal}
-use Rattle.sds_config.specs.declared.refusal.ConfigRefusal.TheVariants.{BadExpression, BadSetting, NoLink, UnknownName}
-use Rattle.sds_config.specs.declared.route.RouterDef.{RouterDef}
-use Rattle.sds_config.specs.declared.route.RouterExpression.{RouterExpression}
-use Rattle.sds_config.specs.declared.route.RouterExpression.TheVariants.{Everything, Tests, Finds, Chooses}
-use Rattle.sds_config.specs.declared.route.RouterKind.{RouterKind}
-use Rattle.sds_config.specs.declared.route.RouterKind.TheVariants.{Default, Column, LookupTable, Subselect}
+use Rattle.sds_types.specs.declared.lookup.Lookup.{Lookup}
+use Rattle.sds_types.specs.declared.subselect.Compared.{Compared}
+use Rattle.sds_types.specs.declared.subselect.Compared.TheVariants.{Routed, Text}
+use Rattle.sds_types.specs.declared.subselect.Condition.{Condition}
+use Rattle.sds_types.specs.declared.subselect.Subselect.{Subselect as Choice}
+use Rattle.sds_types.specs.declared.column_test.ColumnTest.{ColumnTest}
+use Rattle.sds_types.specs.declared.config.Config.{Config}
+use Rattle.sds_types.specs.declared.config_refusal.ConfigRefusal.{ConfigRefusal}
+use Rattle.sds_types.specs.declared.config_refusal.ConfigRefusal.TheVariants.{BadExpression, BadSetting, NoLink, UnknownName}
+use Rattle.sds_types.specs.declared.router.RouterDef.{RouterDef}
+use Rattle.sds_types.specs.declared.router.RouterExpression.{RouterExpression}
+use Rattle.sds_types.specs.declared.router.RouterExpression.TheVariants.{Everything, Tests, Finds, Chooses}
+use Rattle.sds_types.specs.declared.router.RouterKind.{RouterKind}
+use Rattle.sds_types.specs.declared.router.RouterKind.TheVariants.{Default, Column, LookupTable, Subselect}
 use Rattle.sds_config.specs.Ends.{ends_at}
 use Rattle.sds_config.specs.Fields.{only_keys, id_at, word_at, text_or_empty}
 use Rattle.sds_config.specs.Links.{leads}

@@ -8,9 +8,9 @@ use Rattle.sds_value.specs.declared.kind.Kind.TheVariants.{Integer, Decimal, Var
 use Rattle.sds_value.specs.declared.table.ColumnDef.{ColumnDef}
 use Rattle.sds_value.specs.declared.table.TableDef.{TableDef}
 use Rattle.sds_config.specs.declared.columns.ColumnText.{ColumnText}
-use Rattle.sds_config.specs.declared.config.Config.{Config}
-use Rattle.sds_config.specs.declared.refusal.ConfigRefusal.{ConfigRefusal}
-use Rattle.sds_config.specs.declared.refusal.ConfigRefusal.TheVariants.{BadSetting, TooMany}
+use Rattle.sds_types.specs.declared.config.Config.{Config}
+use Rattle.sds_types.specs.declared.config_refusal.ConfigRefusal.{ConfigRefusal}
+use Rattle.sds_types.specs.declared.config_refusal.ConfigRefusal.TheVariants.{BadSetting, TooMany}
 use Rattle.sds_config.specs.Refusals.{and_then}
 use Rattle.sds_config.specs.Fields.{only_keys, required, typed, id_at, place_of}
 use Rattle.sds_config.specs.ColumnTexts.{columns_from}

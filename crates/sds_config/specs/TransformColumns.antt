@@ -3,8 +3,8 @@ use Rattle.std.specs.Prelude.{ℕ, Bool, true, false, if◌then◌else◌, List,
 use Rattle.std.specs.Str.{chars}
 use Rattle.toml.specs.Data.{Members, get_member}
 use Rattle.sds_value.specs.Names.{is_name_text}
-use Rattle.sds_config.specs.declared.config.Config.{Config}
-use Rattle.sds_config.specs.declared.refusal.ConfigRefusal.{ConfigRefusal}
+use Rattle.sds_types.specs.declared.config.Config.{Config}
+use Rattle.sds_types.specs.declared.config_refusal.ConfigRefusal.{ConfigRefusal}
 use Rattle.sds_config.specs.declared.formulas.ColumnEntry.{ColumnEntry}
 use Rattle.sds_config.specs.declared.formulas.Formula.{Formula}
 use Rattle.sds_config.specs.declared.formulas.Making.{Making}

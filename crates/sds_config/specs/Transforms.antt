@@ -6,22 +6,22 @@ use Rattle.toml.specs.Data.{Members, get_member}
 use Rattle.sds_value.specs.declared.kind.Kind.{Kind}
 use Rattle.sds_value.specs.declared.kind.Kind.TheVariants as kind
 use Rattle.sds_value.specs.declared.table.TableDef.{TableDef}
-use Rattle.sds_config.specs.declared.config.Config.{Config}
-use Rattle.sds_config.specs.declared.convert.ColumnKind.{ColumnKind}
-use Rattle.sds_config.specs.declared.convert.ColumnKind.TheVariants.{Remove, Additive}
-use Rattle.sds_config.specs.declared.convert.ColumnPolicy.{ColumnPolicy}
-use Rattle.sds_config.specs.declared.convert.ColumnPolicy.TheVariants.{Specified, Implied}
-use Rattle.sds_config.specs.declared.convert.DeleteAction.TheVariants.{DelRow}
-use Rattle.sds_config.specs.declared.convert.Point.{Point}
-use Rattle.sds_config.specs.declared.convert.Point.TheVariants.{Extract, Load}
-use Rattle.sds_config.specs.declared.convert.TransformColumn.{TransformColumn}
-use Rattle.sds_config.specs.declared.convert.TransformDef.{TransformDef}
-use Rattle.sds_config.specs.declared.refusal.ConfigRefusal.{ConfigRefusal}
-use Rattle.sds_config.specs.declared.refusal.ConfigRefusal.TheVariants.{BadSetting, NoLink, UnknownName}
+use Rattle.sds_types.specs.declared.config.Config.{Config}
+use Rattle.sds_types.specs.declared.transform_column.ColumnKind.{ColumnKind}
+use Rattle.sds_types.specs.declared.transform_column.ColumnKind.TheVariants.{Remove, Additive}
+use Rattle.sds_types.specs.declared.transform.ColumnPolicy.{ColumnPolicy}
+use Rattle.sds_types.specs.declared.transform.ColumnPolicy.TheVariants.{Specified, Implied}
+use Rattle.sds_types.specs.declared.transform.DeleteAction.TheVariants.{DelRow}
+use Rattle.sds_types.specs.declared.transform.Point.{Point}
+use Rattle.sds_types.specs.declared.transform.Point.TheVariants.{Extract, Load}
+use Rattle.sds_types.specs.declared.transform_column.TransformColumn.{TransformColumn}
+use Rattle.sds_types.specs.declared.transform.TransformDef.{TransformDef}
+use Rattle.sds_types.specs.declared.config_refusal.ConfigRefusal.{ConfigRefusal}
+use Rattle.sds_types.specs.declared.config_refusal.ConfigRefusal.TheVariants.{BadSetting, NoLink, UnknownName}
 use Rattle.sds_config.specs.declared.ends.Ends.{Ends}
 use Rattle.sds_config.specs.declared.formulas.ColumnEntry.{ColumnEntry}
 use Rattle.sds_config.specs.declared.transforms.Policies.{Policies}
-use Rattle.sds_config.specs.declared.transforms.Way.{Way}
+use Rattle.sds_config.specs.declared.transforms.TablePair.{TablePair}
 use Rattle.sds_config.specs.ComputedColumns.{columns_of}
 use Rattle.sds_config.specs.Ends.{ends_at}
 use Rattle.sds_config.specs.Fields.{field_path, only_keys, id_at, name_at, word_at, word_or, place_of}
@@ -77,7 +77,7 @@ is_known Extract table column = nat_le (length column.source) 0 || has_column ta
 is_known Load table column = is_remove column.kind || has_column table column.target
 
 -- the name of the table that the configuration has
-abbrev pub own_table : Way → List ℕ
+abbrev pub own_table : TablePair → List ℕ
 own_table way = elim way.point [ Extract ↦ way.source_table | Load ↦ way.target_table ]
 
 abbrev pub table_named : List TableDef → List ℕ → Option TableDef
@@ -162,11 +162,11 @@ judged at (Some table) point policy entries =
     else Err (UnknownName (chars at))
 
 -- the table of the configuration that the transform makes rows of or for
-abbrev pub known_table : Config → Way → Option TableDef
+abbrev pub known_table : Config → TablePair → Option TableDef
 known_table config way = table_named config.tables (own_table way)
 
 -- the columns of a transform, which is judged as a whole
-abbrev pub whole_transform : Config → List ℕ → Ends → Way → Policies → List ColumnEntry → Result (List TransformColumn) ConfigRefusal
+abbrev pub whole_transform : Config → List ℕ → Ends → TablePair → Policies → List ColumnEntry → Result (List TransformColumn) ConfigRefusal
 whole_transform config at ends way policies entries =
     if leads config.links ends.source ends.target
     then judged at (known_table config way) way.point policies.column_policy entries
@@ -176,8 +176,8 @@ abbrev pub transform_keys : List (List ℕ)
 transform_keys = codes "id" ∷ codes "source_group" ∷ codes "target_group" ∷ codes "point" ∷ codes "source_table" ∷ codes "target_table" ∷ codes "delete_action" ∷ codes "column_policy" ∷ codes "column" ∷ []
 
 -- when it is made, and of which table which
-abbrev pub way_at : Members → List ℕ → Result Way ConfigRefusal
-way_at entry at =
+abbrev pub table_pair_at : Members → List ℕ → Result TablePair ConfigRefusal
+table_pair_at entry at =
     and_then (word_at point_of entry at (codes "point")) (λ point.
     and_then (name_at entry at (codes "source_table")) (λ source_table.
     and_then (name_at entry at (codes "target_table")) (λ target_table.
@@ -202,7 +202,7 @@ transform_of config earlier entry at =
     and_then (only_keys transform_keys entry at) (λ _.
     and_then (id_at (λ transform. transform.id) earlier entry at (codes "id")) (λ id.
     and_then (ends_at config.groups entry at) (λ ends.
-    and_then (way_at entry at) (λ way.
+    and_then (table_pair_at entry at) (λ way.
     and_then (policies_at entry at) (λ policies.
     and_then (columns_at config entry at (codes "column")) (λ entries.
     and_then (whole_transform config at ends way policies entries) (λ columns.

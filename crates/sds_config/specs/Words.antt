@@ -1,24 +1,24 @@
 -- The words of the file, each by its bytes.
 use Rattle.std.specs.Prelude.{ℕ, List, codes, if◌then◌else◌, Option, Some, None}
 use Rattle.std.specs.Str.{bytes_eq}
-use Rattle.sds_config.specs.declared.config.Action.{Action}
-use Rattle.sds_config.specs.declared.config.Action.TheVariants as action
-use Rattle.sds_config.specs.declared.config.Algorithm.{Algorithm}
-use Rattle.sds_config.specs.declared.config.Algorithm.TheVariants as algorithm
-use Rattle.sds_config.specs.declared.route.RouterKind.{RouterKind}
-use Rattle.sds_config.specs.declared.route.RouterKind.TheVariants as router_kind
-use Rattle.sds_config.specs.declared.convert.Point.{Point}
-use Rattle.sds_config.specs.declared.convert.Point.TheVariants as point
-use Rattle.sds_config.specs.declared.convert.DeleteAction.{DeleteAction}
-use Rattle.sds_config.specs.declared.convert.DeleteAction.TheVariants as delete_action
-use Rattle.sds_config.specs.declared.convert.ColumnPolicy.{ColumnPolicy}
-use Rattle.sds_config.specs.declared.convert.ColumnPolicy.TheVariants as column_policy
-use Rattle.sds_config.specs.declared.convert.ColumnKind.{ColumnKind}
-use Rattle.sds_config.specs.declared.convert.ColumnKind.TheVariants as column_kind
-use Rattle.sds_config.specs.declared.convert.DetectType.{DetectType}
-use Rattle.sds_config.specs.declared.convert.DetectType.TheVariants as detect_type
-use Rattle.sds_config.specs.declared.convert.ResolveType.{ResolveType}
-use Rattle.sds_config.specs.declared.convert.ResolveType.TheVariants as resolve_type
+use Rattle.sds_types.specs.declared.link.Action.{Action}
+use Rattle.sds_types.specs.declared.link.Action.TheVariants as action
+use Rattle.sds_types.specs.declared.channel.Algorithm.{Algorithm}
+use Rattle.sds_types.specs.declared.channel.Algorithm.TheVariants as algorithm
+use Rattle.sds_types.specs.declared.router.RouterKind.{RouterKind}
+use Rattle.sds_types.specs.declared.router.RouterKind.TheVariants as router_kind
+use Rattle.sds_types.specs.declared.transform.Point.{Point}
+use Rattle.sds_types.specs.declared.transform.Point.TheVariants as point
+use Rattle.sds_types.specs.declared.transform.DeleteAction.{DeleteAction}
+use Rattle.sds_types.specs.declared.transform.DeleteAction.TheVariants as delete_action
+use Rattle.sds_types.specs.declared.transform.ColumnPolicy.{ColumnPolicy}
+use Rattle.sds_types.specs.declared.transform.ColumnPolicy.TheVariants as column_policy
+use Rattle.sds_types.specs.declared.transform_column.ColumnKind.{ColumnKind}
+use Rattle.sds_types.specs.declared.transform_column.ColumnKind.TheVariants as column_kind
+use Rattle.sds_types.specs.declared.conflict.DetectType.{DetectType}
+use Rattle.sds_types.specs.declared.conflict.DetectType.TheVariants as detect_type
+use Rattle.sds_types.specs.declared.conflict.ResolveType.{ResolveType}
+use Rattle.sds_types.specs.declared.conflict.ResolveType.TheVariants as resolve_type
 
 abbrev pub action_of : List ℕ → Option Action
 action_of word = if bytes_eq word (codes "P") then Some action.P else (if bytes_eq word (codes "W") then Some action.W else None)

@@ -1,6 +1,6 @@
 ghost use Rattle.std.specs.Prelude.{◌≡◌, ℕ, List};
-ghost use Rattle.sds_config.specs.declared.config.Config.{Config};
-ghost use Rattle.sds_config.specs.declared.refusal.ConfigRefusal.{ConfigRefusal};
+ghost use Rattle.sds_types.specs.declared.config.Config.{Config};
+ghost use Rattle.sds_types.specs.declared.config_refusal.ConfigRefusal.{ConfigRefusal};
 ghost use Rattle.sds_config.specs.Configuration.{IsConfiguration, IsFirstRefusal};
 
 /// The law that a file has one reading: it writes at most one configuration, or has at most one first refusal, and never both.

@@ -1,14 +1,10 @@
-//! The configuration of a chain of nodes, as plain data: groups, links, channels, tables, triggers, routers,
-//! transforms and conflict settings. A number that stands for one of these is its place in its list, from 0.
+//! The configuration file: what it may hold, and its reading as the plain data of sds_types.
 #![tactic(auto)]
 
 mod channels;
 mod columns;
 mod computed;
-mod config;
 mod conflicts;
-mod convert;
-mod copies;
 mod ends;
 mod fields;
 mod formulas;
@@ -17,9 +13,8 @@ mod laws;
 mod links;
 mod named;
 mod pairs;
+mod read;
 mod reading;
-mod refusal;
-mod route;
 mod routers;
 mod rules;
 mod sections;
@@ -52,12 +47,11 @@ mod transforms;
 mod triggers;
 mod words;
 
-pub use config::{Action, Algorithm, ChannelDef, Config, LinkDef};
-pub use convert::{
-    ColumnExpression, ColumnKind, ColumnPolicy, ConflictDef, DeleteAction, DetectType, Point,
-    ResolveType, TransformColumn, TransformDef,
-};
 pub use laws::files_have_one_reading;
-pub use refusal::ConfigRefusal;
-pub use route::{RouterDef, RouterExpression, RouterKind, TriggerDef, TriggerRouterDef};
+pub use read::ReadConfig;
+pub use sds_types::{
+    Action, Algorithm, ChannelDef, ColumnExpression, ColumnKind, ColumnPolicy, Config,
+    ConfigRefusal, ConflictDef, DeleteAction, DetectType, LinkDef, Point, ResolveType, RouterDef,
+    RouterExpression, RouterKind, TransformColumn, TransformDef, TriggerDef, TriggerRouterDef,
+};
 pub use sds_value::{ColumnDef, TableDef};

@@ -1,6 +1,6 @@
 ghost use Rattle.std.specs.Prelude.{◌≡◌, IfOk, option_copied};
 ghost use Rattle.std.specs.List.{list_all};
-ghost use Rattle.sds_config.specs.declared.refusal.ConfigRefusal.TheVariants.{BadExpression};
+ghost use Rattle.sds_types.specs.declared.config_refusal.ConfigRefusal.TheVariants.{BadExpression};
 ghost use Rattle.sds_config.specs.Refusals.{Answers};
 ghost use Rattle.sds_config.specs.Routers as wanted;
 ghost use Rattle.sds_config.specs.Transforms.{table_named};
@@ -13,9 +13,8 @@ use crate::sections::Entry;
 use crate::transforms::table_named;
 use crate::{Config, ConfigRefusal, RouterDef, RouterExpression, RouterKind};
 use sds_base::{List, NoMemory, Twin, Txt};
-use sds_expressions::{
-    ColumnTest, Compared, Condition, Lookup, Subselect, column_tests, lookup_text, subselect_text,
-};
+use sds_expressions::{column_tests, lookup_text, subselect_text};
+use sds_types::{ColumnTest, Compared, Condition, Lookup, Subselect};
 use sds_value::TableDef;
 use std::alloc::Global;
 use toml::Table;

@@ -15,8 +15,8 @@ pub trait Entry: Drop {
     ghost use Rattle.std.specs.Prelude.{◌≤◌, List, ℕ, Result, length};
     ghost use Rattle.toml.specs.Data.{Members};
     ghost use Rattle.toml.specs.View.{table_view};
-    ghost use Rattle.sds_config.specs.declared.config.Config.{Config};
-    ghost use Rattle.sds_config.specs.declared.refusal.ConfigRefusal.{ConfigRefusal};
+    ghost use Rattle.sds_types.specs.declared.config.Config.{Config};
+    ghost use Rattle.sds_types.specs.declared.config_refusal.ConfigRefusal.{ConfigRefusal};
     ghost use Rattle.sds_config.specs.Refusals.{Answers};
     ghost use Rattle.sds_config.specs.Limits.{IsWithinLimits};
 

@@ -1,5 +1,5 @@
 // What the tests of the configuration share: a configuration with every section, changes of it, and what is answered.
-use crate::{Config, ConfigRefusal};
+use crate::{Config, ConfigRefusal, ReadConfig};
 use sds_base::NoMemory;
 use std::alloc::Global;
 use std::process::Abort;

@@ -1,6 +1,6 @@
 // The whole values of configurations, each written out by hand. The texts of examples/ are copies of the files there.
-use crate::Config;
 use crate::tests_printed::print;
+use crate::{Config, ReadConfig};
 use sds_base::{NoMemory, Same};
 use std::alloc::Global;
 use std::process::Abort;

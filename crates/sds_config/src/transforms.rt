@@ -21,9 +21,9 @@ use sds_value::TableDef;
 use std::alloc::Global;
 use toml::Table;
 
-/// When a transform is made, and of which table which.
+/// When a transform is made, and of which table it makes rows of which.
 #[derive(Debug, Drop)]
-pub struct Way {
+pub struct TablePair {
     pub point: Point,
     pub source_table: Txt,
     pub target_table: Txt,
@@ -66,7 +66,7 @@ impl Entry for TransformDef {
         )?;
         let id = id_at(alloc, table, at, "id", earlier)?;
         let ends = ends_at(alloc, &config.groups, table, at)?;
-        let way = way_at(alloc, table, at)?;
+        let way = table_pair_at(alloc, table, at)?;
         let policies = policies_at(alloc, table, at)?;
         let entries = columns_at(alloc, config, table, at, "column")?;
         let columns = whole_transform(alloc, config, at, &ends, &way, policies, entries)?;
@@ -84,13 +84,13 @@ impl Entry for TransformDef {
     }
 }
 
-fn way_at(alloc: Global, table: &Table, at: &str) -> Result<Way, ConfigRefusal>
-    ensures { Answers result (wanted.way_at (table_view table.now) at.now) }
+fn table_pair_at(alloc: Global, table: &Table, at: &str) -> Result<TablePair, ConfigRefusal>
+    ensures { Answers result (wanted.table_pair_at (table_view table.now) at.now) }
 {
     let point = word_at(alloc, table, at, "point")?;
     let source_table = name_at(alloc, table, at, "source_table")?;
     let target_table = name_at(alloc, table, at, "target_table")?;
-    Ok(Way {
+    Ok(TablePair {
         point,
         source_table,
         target_table,
@@ -135,7 +135,7 @@ fn whole_transform(
     config: &Config,
     at: &str,
     ends: &Ends,
-    way: &Way,
+    way: &TablePair,
     policies: Policies,
     entries: List<ColumnEntry>,
 ) -> Result<List<TransformColumn>, ConfigRefusal>
@@ -150,7 +150,7 @@ fn whole_transform(
 }
 
 /// The table of the configuration that the transform makes rows of or for.
-fn known_table<'a>(config: &'a Config, way: &Way) -> Option<&'a TableDef>
+fn known_table<'a>(config: &'a Config, way: &TablePair) -> Option<&'a TableDef>
     ensures { option_copied result ≡ wanted.known_table config.now way.now }
 {
     table_named(config.tables.inner().as_slice(), own_table(way))
@@ -181,7 +181,7 @@ fn judged(
     }
 }
 
-fn own_table(way: &Way) -> &Txt
+fn own_table(way: &TablePair) -> &Txt
     ensures { result.now ≡ wanted.own_table way.now }
 {
     match way.point {

@@ -7,9 +7,9 @@ use Rattle.std.proofs.lemmas.Slice.Eq.{starts_is}
 use Rattle.std.proofs.Math.Utf8.{scalar}
 use Rattle.std.specs.List.{starts_with}
 use Rattle.std.specs.Str.{all_scalars}
-use Rattle.sds_expressions.specs.declared.tested.ColumnTest.{ColumnTest}
-use Rattle.sds_expressions.specs.declared.tested.Operand.{Operand}
-use Rattle.sds_expressions.specs.declared.tested.Operand.TheVariants.{NodeId, ExternalId, NodeGroupId, Text}
+use Rattle.sds_types.specs.declared.column_test.ColumnTest.{ColumnTest}
+use Rattle.sds_types.specs.declared.column_test.Operand.{Operand}
+use Rattle.sds_types.specs.declared.column_test.Operand.TheVariants.{NodeId, ExternalId, NodeGroupId, Text}
 use Rattle.sds_expressions.specs.declared.tests_read.Part.{Part}
 use Rattle.sds_expressions.specs.declared.tests_read.Part.TheVariants as part
 use Rattle.sds_expressions.specs.declared.tests_read.Reading.{Reading}

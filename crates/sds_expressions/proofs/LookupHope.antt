@@ -7,9 +7,9 @@ use Rattle.std.proofs.lemmas.Slice.Eq.{bytes_eq-Decides}
 use Rattle.std.proofs.Math.Utf8.{scalar}
 use Rattle.std.specs.List.{starts_with}
 use Rattle.std.specs.Str.{all_scalars, bytes_eq}
-use Rattle.sds_expressions.specs.declared.lookup.Lookup.{Lookup}
-use Rattle.sds_expressions.specs.declared.lookup_read.Key.{Key}
-use Rattle.sds_expressions.specs.declared.lookup_read.Key.TheVariants.{Table, Column, LookupColumn, ExternalId}
+use Rattle.sds_types.specs.declared.lookup.Lookup.{Lookup}
+use Rattle.sds_expressions.specs.declared.lookup_read.LookupKey.{LookupKey}
+use Rattle.sds_expressions.specs.declared.lookup_read.LookupKey.TheVariants.{Table, Column, LookupColumn, ExternalId}
 use Rattle.sds_expressions.specs.declared.lookup_read.Part.{Part}
 use Rattle.sds_expressions.specs.declared.lookup_read.Part.TheVariants as part
 use Rattle.sds_expressions.specs.declared.lookup_read.Reading.{Reading}
@@ -33,7 +33,7 @@ one_more reading next c is good can = readings.one_more lookup.step finish readi
 
 -- before a name stands a proper front of a key whose line is still to come; behind the last line all four names are there
 record InKey (reading : Reading) : Type 0 where
-  key : Key
+  key : LookupKey
   more : ℕ
   rest : List ℕ
   still : lookup.is_open reading key ≡ true
@@ -62,19 +62,19 @@ and_no true = refl
 and_no false = refl
 
 -- four tests, one for each key
-abbrev chosen : Key → Bool → Bool → Bool → Bool → Bool
+abbrev chosen : LookupKey → Bool → Bool → Bool → Bool → Bool
 chosen Table a b c d = a
 chosen Column a b c d = b
 chosen LookupColumn a b c d = c
 chosen ExternalId a b c d = d
 
-chosen_is : (key : Key) (test : Key → Bool) → chosen key (test Table) (test Column) (test LookupColumn) (test ExternalId) ≡ test key
+chosen_is : (key : LookupKey) (test : LookupKey → Bool) → chosen key (test Table) (test Column) (test LookupColumn) (test ExternalId) ≡ test key
 chosen_is Table test = refl
 chosen_is Column test = refl
 chosen_is LookupColumn test = refl
 chosen_is ExternalId test = refl
 
-any_of : (key : Key) (a b c d : Bool) → chosen key a b c d ≡ true → (a || (b || (c || d))) ≡ true
+any_of : (key : LookupKey) (a b c d : Bool) → chosen key a b c d ≡ true → (a || (b || (c || d))) ≡ true
 any_of key true b c d e = refl
 any_of key false true c d e = refl
 any_of key false false true d e = refl
@@ -84,13 +84,13 @@ any_of Column false false false false e = e
 any_of LookupColumn false false false false e = e
 any_of ExternalId false false false false e = e
 
-which : (a b c d : Bool) → (a || (b || (c || d))) ≡ true → (key : Key) × (chosen key a b c d ≡ true)
+which : (a b c d : Bool) → (a || (b || (c || d))) ≡ true → (key : LookupKey) × (chosen key a b c d ≡ true)
 which true b c d e = (Table, refl)
 which false true c d e = (Column, refl)
 which false false true d e = (LookupColumn, refl)
 which false false false d e = (ExternalId, e)
 
-no_key : (key : Key) (a b c d : Bool) → (if a then Some Table else (if b then Some Column else (if c then Some LookupColumn else (if d then Some ExternalId else None)))) ≡ None → chosen key a b c d ≡ false
+no_key : (key : LookupKey) (a b c d : Bool) → (if a then Some Table else (if b then Some Column else (if c then Some LookupColumn else (if d then Some ExternalId else None)))) ≡ None → chosen key a b c d ≡ false
 no_key key true b c d e = absurd (cc)
 no_key key false true c d e = absurd (cc)
 no_key key false false true d e = absurd (cc)
@@ -107,7 +107,7 @@ no_true e = cc
 no_more : (c : ℕ) (rest : List ℕ) → [] ≡ c ∷ rest → ⊥
 no_more c rest e = cc
 
-apart : (key other : Key) (c : ℕ) (rest : List ℕ) → lookup.key_text key ≡ lookup.key_text other ++ c ∷ rest → ⊥
+apart : (key other : LookupKey) (c : ℕ) (rest : List ℕ) → lookup.key_text key ≡ lookup.key_text other ++ c ∷ rest → ⊥
 apart Table Table c rest e = no_more c rest (ap (drop 13) e)
 apart Table Column c rest e = no_true (front_is (codes "LOOKUP_TABLE=") (codes "KEY_COLUMN=") (c ∷ rest) e)
 apart Table LookupColumn c rest e = no_true (front_is (codes "LOOKUP_TABLE=") (codes "LOOKUP_KEY_COLUMN=") (c ∷ rest) e)
@@ -125,24 +125,24 @@ apart ExternalId Column c rest e = no_true (front_is (codes "EXTERNAL_ID_COLUMN=
 apart ExternalId LookupColumn c rest e = no_true (front_is (codes "EXTERNAL_ID_COLUMN=") (codes "LOOKUP_KEY_COLUMN=") (c ∷ rest) e)
 apart ExternalId ExternalId c rest e = no_more c rest (ap (drop 19) e)
 
-not_key : (key other : Key) (reading : Reading) (word : List ℕ) (c : ℕ) (rest : List ℕ) → lookup.key_text key ≡ word ++ c ∷ rest → lookup.is_key reading word other ≡ false
+not_key : (key other : LookupKey) (reading : Reading) (word : List ℕ) (c : ℕ) (rest : List ℕ) → lookup.key_text key ≡ word ++ c ∷ rest → lookup.is_key reading word other ≡ false
 not_key key other reading word c rest e = at (bytes_eq word (lookup.key_text other)) refl
   where
     at : (t : Bool) → bytes_eq word (lookup.key_text other) ≡ t → (lookup.is_open reading other && bytes_eq word (lookup.key_text other)) ≡ false
     at true f = let same : word ≡ lookup.key_text other = (bytes_eq-Decides word (lookup.key_text other)).0 f in absurd (apart key other c rest (e ∙ ap (λ w. w ++ c ∷ rest) same))
     at false f = rw f (and_no (lookup.is_open reading other))
 
-not_whole : (key : Key) (reading : Reading) (word : List ℕ) (c : ℕ) (rest : List ℕ) → lookup.key_text key ≡ word ++ c ∷ rest → lookup.key_of reading word ≡ None
+not_whole : (key : LookupKey) (reading : Reading) (word : List ℕ) (c : ℕ) (rest : List ℕ) → lookup.key_text key ≡ word ++ c ∷ rest → lookup.key_of reading word ≡ None
 not_whole key reading word c rest e =
     rw (not_key key Table reading word c rest e, not_key key Column reading word c rest e, not_key key LookupColumn reading word c rest e, not_key key ExternalId reading word c rest e) refl
 
-whole_key : (key : Key) (reading : Reading) → lookup.is_open reading key ≡ true → lookup.key_of reading (lookup.key_text key) ≡ Some key
+whole_key : (key : LookupKey) (reading : Reading) → lookup.is_open reading key ≡ true → lookup.key_of reading (lookup.key_text key) ≡ Some key
 whole_key Table reading still = rw still refl
 whole_key Column reading still = rw (and_no (lookup.is_open reading Table), still) refl
 whole_key LookupColumn reading still = rw (and_no (lookup.is_open reading Table), and_no (lookup.is_open reading Column), still) refl
 whole_key ExternalId reading still = rw (and_no (lookup.is_open reading Table), and_no (lookup.is_open reading Column), and_no (lookup.is_open reading LookupColumn), still) refl
 
-begins_key : (key : Key) (reading : Reading) (word rest : List ℕ) → lookup.is_open reading key ≡ true → lookup.key_text key ≡ word ++ rest → lookup.begins reading word ≡ true
+begins_key : (key : LookupKey) (reading : Reading) (word rest : List ℕ) → lookup.is_open reading key ≡ true → lookup.key_text key ≡ word ++ rest → lookup.begins reading word ≡ true
 begins_key key reading word rest still e =
     let this : lookup.begins_key reading word key ≡ true = rw (still, front_is (lookup.key_text key) word rest e) refl in
     any_of key (lookup.begins_key reading word Table) (lookup.begins_key reading word Column) (lookup.begins_key reading word LookupColumn) (lookup.begins_key reading word ExternalId)
@@ -152,11 +152,11 @@ begins_key key reading word rest still e =
 key_holds : (reading : Reading) → reading.part ≡ part.Key → InKey reading → Holds reading
 key_holds reading is holds = subst (λ (at : Part). HoldsAt at reading) (sym is) holds
 
-key_kept : (reading next : Reading) (word : List ℕ) (key : Option Key) → reading.part ≡ part.Key → lookup.key_of reading word ≡ key → lookup.key_read reading word key ≡ Some next → Holds next
+key_kept : (reading next : Reading) (word : List ℕ) (key : Option LookupKey) → reading.part ≡ part.Key → lookup.key_of reading word ≡ key → lookup.key_read reading word key ≡ Some next → Holds next
 key_kept reading next word (Some key) is none e = kept (record reading { word = []; key = key; part = part.Name }) next tt e
 key_kept reading next word None is none e = branch (lookup.begins reading word) (Some (record reading { word = word })) None next (λ test f. kept (record reading { word = word }) next (key_holds (record reading { word = word }) is (front test)) f) (gone next) e
   where
-    longer : (key : Key) (rest : List ℕ) → lookup.is_open (record reading { word = word }) key ≡ true → lookup.is_key reading word key ≡ false → lookup.is_open reading key ≡ true → lookup.key_text key ≡ word ++ rest → InKey (record reading { word = word })
+    longer : (key : LookupKey) (rest : List ℕ) → lookup.is_open (record reading { word = word }) key ≡ true → lookup.is_key reading word key ≡ false → lookup.is_open reading key ≡ true → lookup.key_text key ≡ word ++ rest → InKey (record reading { word = word })
     longer key [] still other still' f =
         let same : word ≡ lookup.key_text key = sym (f ∙ append-nil word) in
         let is_same : bytes_eq word (lookup.key_text key) ≡ true = (bytes_eq-Decides word (lookup.key_text key)).1 same in
@@ -164,7 +164,7 @@ key_kept reading next word None is none e = branch (lookup.begins reading word) 
         absurd (cc)
     longer key (c ∷ rest) still other still' f = record { key = key; more = c; rest = rest; still = still; is = f }
 
-    word_open : (key : Key) → lookup.is_open reading key ≡ true → lookup.is_open (record reading { word = word }) key ≡ true
+    word_open : (key : LookupKey) → lookup.is_open reading key ≡ true → lookup.is_open (record reading { word = word }) key ≡ true
     word_open Table h = h
     word_open Column h = h
     word_open LookupColumn h = h
@@ -177,21 +177,21 @@ key_kept reading next word None is none e = branch (lookup.begins reading word) 
         let other = sym (chosen_is found.0 (lookup.is_key reading word)) ∙ no_key found.0 (lookup.is_key reading word Table) (lookup.is_key reading word Column) (lookup.is_key reading word LookupColumn) (lookup.is_key reading word ExternalId) none in
         longer found.0 (drop (length word) (lookup.key_text found.0)) (word_open found.0 this.0) other this.0 (rest_is (lookup.key_text found.0) word this.1)
 
-key_head : (key : Key) → (c : ℕ) × (rest : List ℕ) × (lookup.key_text key ≡ [] ++ c ∷ rest)
+key_head : (key : LookupKey) → (c : ℕ) × (rest : List ℕ) × (lookup.key_text key ≡ [] ++ c ∷ rest)
 key_head Table = (76, drop 1 (codes "LOOKUP_TABLE="), refl)
 key_head Column = (75, drop 1 (codes "KEY_COLUMN="), refl)
 key_head LookupColumn = (76, drop 1 (codes "LOOKUP_KEY_COLUMN="), refl)
 key_head ExternalId = (69, drop 1 (codes "EXTERNAL_ID_COLUMN="), refl)
 
 still_open : (table column lookup_column external_id : Option (List ℕ)) → lookup.four table column lookup_column external_id ≡ None
-    → (key : Key) × (chosen key (not (is_some table)) (not (is_some column)) (not (is_some lookup_column)) (not (is_some external_id)) ≡ true)
+    → (key : LookupKey) × (chosen key (not (is_some table)) (not (is_some column)) (not (is_some lookup_column)) (not (is_some external_id)) ≡ true)
 still_open None column lookup_column external_id e = (Table, refl)
 still_open (Some table) None lookup_column external_id e = (Column, refl)
 still_open (Some table) (Some column) None external_id e = (LookupColumn, refl)
 still_open (Some table) (Some column) (Some lookup_column) None e = (ExternalId, refl)
 still_open (Some table) (Some column) (Some lookup_column) (Some external_id) e = absurd (cc)
 
-key_to_come : (reading : Reading) → lookup.lookup_of reading ≡ None → (key : Key) × (lookup.is_open reading key ≡ true)
+key_to_come : (reading : Reading) → lookup.lookup_of reading ≡ None → (key : LookupKey) × (lookup.is_open reading key ≡ true)
 key_to_come reading e =
     let found = still_open reading.table reading.column reading.lookup_column reading.external_id e in
     (found.0, sym (chosen_is found.0 (lookup.is_open reading)) ∙ found.1)
@@ -233,28 +233,28 @@ some_gap (Some table) (Some column) None external_id e = omega arith
 some_gap (Some table) (Some column) (Some lookup_column) None e = omega arith
 some_gap (Some table) (Some column) (Some lookup_column) (Some external_id) e = absurd (cc)
 
-abbrev before_name : Key → Reading → Reading
+abbrev before_name : LookupKey → Reading → Reading
 before_name key reading = record reading { word = []; key = key; part = part.Name }
 
-fewer : (key : Key) (reading : Reading) (most : ℕ) → lookup.is_open reading key ≡ true → gaps reading ≤ suc most → gaps (lookup.with_line key (before_name key reading) []) ≤ most
+fewer : (key : LookupKey) (reading : Reading) (most : ℕ) → lookup.is_open reading key ≡ true → gaps reading ≤ suc most → gaps (lookup.with_line key (before_name key reading) []) ≤ most
 fewer Table reading most still few = omega (arith, gap_is reading.table still, few)
 fewer Column reading most still few = omega (arith, gap_is reading.column still, few)
 fewer LookupColumn reading most still few = omega (arith, gap_is reading.lookup_column still, few)
 fewer ExternalId reading most still few = omega (arith, gap_is reading.external_id still, few)
 
-line_gaps : (key : Key) (reading : Reading) (word name other : List ℕ) → gaps (lookup.with_line key reading name) ≡ gaps (lookup.with_line key (record reading { word = word }) other)
+line_gaps : (key : LookupKey) (reading : Reading) (word name other : List ℕ) → gaps (lookup.with_line key reading name) ≡ gaps (lookup.with_line key (record reading { word = word }) other)
 line_gaps Table reading word name other = refl
 line_gaps Column reading word name other = refl
 line_gaps LookupColumn reading word name other = refl
 line_gaps ExternalId reading word name other = refl
 
-key_scalars : (key : Key) → all_scalars (lookup.key_text key) ≡ true
+key_scalars : (key : LookupKey) → all_scalars (lookup.key_text key) ≡ true
 key_scalars Table = refl
 key_scalars Column = refl
 key_scalars LookupColumn = refl
 key_scalars ExternalId = refl
 
-more_open : (key : Key) (reading : Reading) (word : List ℕ) → lookup.is_open reading key ≡ true → lookup.is_open (record reading { word = word }) key ≡ true
+more_open : (key : LookupKey) (reading : Reading) (word : List ℕ) → lookup.is_open reading key ≡ true → lookup.is_open (record reading { word = word }) key ≡ true
 more_open Table reading word h = h
 more_open Column reading word h = h
 more_open LookupColumn reading word h = h
@@ -262,7 +262,7 @@ more_open ExternalId reading word h = h
 
 -- from within a key to its name
 can_key : (most : ℕ) → ((next : Reading) → next.part ≡ part.Name → gaps (lookup.with_line next.key next next.word) ≤ most → CanEnd next)
-    → (rest : List ℕ) (c : ℕ) (reading : Reading) (key : Key) → reading.part ≡ part.Key → lookup.is_open reading key ≡ true → lookup.key_text key ≡ reading.word ++ c ∷ rest → gaps reading ≤ suc most → CanEnd reading
+    → (rest : List ℕ) (c : ℕ) (reading : Reading) (key : LookupKey) → reading.part ≡ part.Key → lookup.is_open reading key ≡ true → lookup.key_text key ≡ reading.word ++ c ∷ rest → gaps reading ≤ suc most → CanEnd reading
 can_key most name [] c reading key is still e few =
     let good : all_scalars (c ∷ []) ≡ true = back_scalars reading.word (c ∷ []) (ap all_scalars (sym e) ∙ key_scalars key) in
     let next = before_name key reading in

@@ -5,8 +5,8 @@ use Rattle.std.proofs.lemmas.Bool.Decides.{Decides-eqb}
 use Rattle.std.proofs.lemmas.List.{append_assoc, append-nil}
 use Rattle.std.proofs.Math.Utf8.{scalar}
 use Rattle.std.specs.Char.{to_ascii_lowercase}
-use Rattle.sds_expressions.specs.declared.subselect.Compared.TheVariants.{Routed, Text}
-use Rattle.sds_expressions.specs.declared.subselect.Subselect.{Subselect}
+use Rattle.sds_types.specs.declared.subselect.Compared.TheVariants.{Routed, Text}
+use Rattle.sds_types.specs.declared.subselect.Subselect.{Subselect}
 use Rattle.sds_expressions.specs.declared.subselect_read.Reading.{Reading}
 use Rattle.sds_expressions.specs.declared.subselect_read.Slot.{Slot}
 use Rattle.sds_expressions.specs.declared.subselect_read.Slot.TheVariants as slot

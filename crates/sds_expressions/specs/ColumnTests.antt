@@ -4,9 +4,9 @@ use Rattle.std.specs.Prelude.{ℕ, ◌+◌, Bool, true, false, ◌||◌, ◌==�
 use Rattle.std.specs.List.{starts_with}
 use Rattle.std.specs.Char.{is_ascii_alphanumeric}
 use Rattle.std.specs.Str.{bytes_eq}
-use Rattle.sds_expressions.specs.declared.tested.ColumnTest.{ColumnTest}
-use Rattle.sds_expressions.specs.declared.tested.Operand.{Operand}
-use Rattle.sds_expressions.specs.declared.tested.Operand.TheVariants.{NodeId, ExternalId, NodeGroupId, Null, Text}
+use Rattle.sds_types.specs.declared.column_test.ColumnTest.{ColumnTest}
+use Rattle.sds_types.specs.declared.column_test.Operand.{Operand}
+use Rattle.sds_types.specs.declared.column_test.Operand.TheVariants.{NodeId, ExternalId, NodeGroupId, Null, Text}
 use Rattle.sds_expressions.specs.declared.tests_read.Part.{Part}
 use Rattle.sds_expressions.specs.declared.tests_read.Part.TheVariants as part
 use Rattle.sds_expressions.specs.declared.tests_read.Reading.{Reading}

@@ -1,10 +1,10 @@
 -- The expressions of a transform's columns, by their bytes in UTF-8.
 use Rattle.std.specs.Prelude.{ℕ, ℤ, pos, neg_ℤ, ◌==◌, if◌then◌else◌, List, [], ◌∷◌, ◌++◌, codes, Option, Some, None, option_map, option_and_then}
 use Rattle.std.specs.Str.{bytes_eq, chars}
-use Rattle.sds_expressions.specs.declared.computed.NodeWord.{NodeWord}
-use Rattle.sds_expressions.specs.declared.computed.NodeWord.TheVariants.{SourceNode, TargetNode}
-use Rattle.sds_expressions.specs.declared.computed.Pair.{Pair}
-use Rattle.sds_expressions.specs.declared.computed.Piece.{Piece}
+use Rattle.sds_types.specs.declared.transform_column.NodeWord.{NodeWord}
+use Rattle.sds_types.specs.declared.transform_column.NodeWord.TheVariants.{SourceNode, TargetNode}
+use Rattle.sds_types.specs.declared.transform_column.MapPair.{MapPair}
+use Rattle.sds_types.specs.declared.transform_column.Substring.{Substring}
 use Rattle.sds_expressions.specs.Numbers.{plain_number}
 use Rattle.sds_expressions.specs.Pieces.{split_at, split}
 
@@ -13,23 +13,23 @@ abbrev pub left_of : List ℕ → Option ℕ
 left_of text = plain_number 2000 text
 
 -- one number, or two that a comma joins
-abbrev pub substr_of : List ℕ → Option Piece
+abbrev pub substr_of : List ℕ → Option Substring
 substr_of text = elim (split_at 44 text) [
   | None ↦ option_map (λ from. record { first = from; end = None }) (left_of text)
   | Some parts ↦ option_and_then (λ from. option_map (λ to. record { first = from; end = Some to }) (left_of parts.1)) (left_of parts.0)
 ]
 
 -- a pair is divided at its first `=`
-abbrev pub pair_of : List ℕ → Option Pair
+abbrev pub pair_of : List ℕ → Option MapPair
 pair_of text = option_map (λ parts. record { source = chars parts.0; target = chars parts.1 }) (split_at 61 text)
 
 -- the pairs so far and those of the texts that follow
-abbrev pub pairs_from : List Pair → List (List ℕ) → Option (List Pair)
+abbrev pub pairs_from : List MapPair → List (List ℕ) → Option (List MapPair)
 pairs_from earlier [] = Some earlier
 pairs_from earlier (text ∷ texts) = option_and_then (λ pair. pairs_from (earlier ++ pair ∷ []) texts) (pair_of text)
 
 -- pairs that single spaces join
-abbrev pub value_map_of : List ℕ → Option (List Pair)
+abbrev pub value_map_of : List ℕ → Option (List MapPair)
 value_map_of text = pairs_from [] (split 32 text)
 
 -- one of the two words

@@ -2,40 +2,40 @@
 use Rattle.std.specs.Prelude.{ℕ, ◌+◌, Bool, not, ◌&&◌, ◌||◌, ◌==◌, nat_lt, if◌then◌else◌, List, [], ◌∷◌, ◌++◌, length, codes, Option, Some, None, is_some, Result, Ok, Err}
 use Rattle.std.specs.List.{starts_with}
 use Rattle.std.specs.Str.{bytes_eq}
-use Rattle.sds_expressions.specs.declared.lookup.Lookup.{Lookup}
-use Rattle.sds_expressions.specs.declared.lookup_read.Key.{Key}
-use Rattle.sds_expressions.specs.declared.lookup_read.Key.TheVariants.{Table, Column, LookupColumn, ExternalId}
+use Rattle.sds_types.specs.declared.lookup.Lookup.{Lookup}
+use Rattle.sds_expressions.specs.declared.lookup_read.LookupKey.{LookupKey}
+use Rattle.sds_expressions.specs.declared.lookup_read.LookupKey.TheVariants.{Table, Column, LookupColumn, ExternalId}
 use Rattle.sds_expressions.specs.declared.lookup_read.Part.{Part}
 use Rattle.sds_expressions.specs.declared.lookup_read.Part.TheVariants as part
 use Rattle.sds_expressions.specs.declared.lookup_read.Reading.{Reading}
 use Rattle.sds_expressions.specs.ColumnTests.{is_name_character}
 
 -- the keys, each with its `=`
-abbrev pub key_text : Key → List ℕ
+abbrev pub key_text : LookupKey → List ℕ
 key_text Table = codes "LOOKUP_TABLE="
 key_text Column = codes "KEY_COLUMN="
 key_text LookupColumn = codes "LOOKUP_KEY_COLUMN="
 key_text ExternalId = codes "EXTERNAL_ID_COLUMN="
 
 -- the name that is read for a key
-abbrev pub found : Key → Reading → Option (List ℕ)
+abbrev pub found : LookupKey → Reading → Option (List ℕ)
 found Table reading = reading.table
 found Column reading = reading.column
 found LookupColumn reading = reading.lookup_column
 found ExternalId reading = reading.external_id
 
 -- a line of the key may still come
-abbrev pub is_open : Reading → Key → Bool
+abbrev pub is_open : Reading → LookupKey → Bool
 is_open reading key = not (is_some (found key reading))
 
 -- the word is such a key, and the word is the front of such a key
-abbrev pub is_key : Reading → List ℕ → Key → Bool
+abbrev pub is_key : Reading → List ℕ → LookupKey → Bool
 is_key reading word key = is_open reading key && bytes_eq word (key_text key)
 
-abbrev pub begins_key : Reading → List ℕ → Key → Bool
+abbrev pub begins_key : Reading → List ℕ → LookupKey → Bool
 begins_key reading word key = is_open reading key && starts_with (λ a b. a == b) (key_text key) word
 
-abbrev pub key_of : Reading → List ℕ → Option Key
+abbrev pub key_of : Reading → List ℕ → Option LookupKey
 key_of reading word = if is_key reading word Table then Some Table
     else (if is_key reading word Column then Some Column
     else (if is_key reading word LookupColumn then Some LookupColumn
@@ -46,7 +46,7 @@ begins reading word = begins_key reading word Table
     || (begins_key reading word Column || (begins_key reading word LookupColumn || begins_key reading word ExternalId))
 
 -- a line is read
-abbrev pub with_line : Key → Reading → List ℕ → Reading
+abbrev pub with_line : LookupKey → Reading → List ℕ → Reading
 with_line Table reading name = record reading { table = Some name }
 with_line Column reading name = record reading { column = Some name }
 with_line LookupColumn reading name = record reading { lookup_column = Some name }
@@ -62,7 +62,7 @@ abbrev pub lookup_of : Reading → Option Lookup
 lookup_of reading = four reading.table reading.column reading.lookup_column reading.external_id
 
 -- in a key
-abbrev pub key_read : Reading → List ℕ → Option Key → Option Reading
+abbrev pub key_read : Reading → List ℕ → Option LookupKey → Option Reading
 key_read reading word (Some key) = Some (record reading { word = []; key = key; part = part.Name })
 key_read reading word None = if begins reading word then Some (record reading { word = word }) else None
 

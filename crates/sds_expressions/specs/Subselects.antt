@@ -4,11 +4,11 @@ use Rattle.std.specs.Prelude.{ℕ, ◌+◌, Bool, true, false, ◌&&◌, ◌||�
 use Rattle.std.specs.Char.{to_ascii_lowercase}
 use Rattle.std.specs.List.{starts_with}
 use Rattle.std.specs.Str.{bytes_eq}
-use Rattle.sds_expressions.specs.declared.subselect.Compared.{Compared}
-use Rattle.sds_expressions.specs.declared.subselect.Compared.TheVariants.{Routed, Text}
-use Rattle.sds_expressions.specs.declared.subselect.NodeColumn.{NodeColumn}
-use Rattle.sds_expressions.specs.declared.subselect.NodeColumn.TheVariants.{ExternalId, NodeId}
-use Rattle.sds_expressions.specs.declared.subselect.Subselect.{Subselect}
+use Rattle.sds_types.specs.declared.subselect.Compared.{Compared}
+use Rattle.sds_types.specs.declared.subselect.Compared.TheVariants.{Routed, Text}
+use Rattle.sds_types.specs.declared.subselect.NodeColumn.{NodeColumn}
+use Rattle.sds_types.specs.declared.subselect.NodeColumn.TheVariants.{ExternalId, NodeId}
+use Rattle.sds_types.specs.declared.subselect.Subselect.{Subselect}
 use Rattle.sds_expressions.specs.declared.subselect_read.Reading.{Reading}
 use Rattle.sds_expressions.specs.declared.subselect_read.Slot.{Slot}
 use Rattle.sds_expressions.specs.declared.subselect_read.Slot.TheVariants as slot

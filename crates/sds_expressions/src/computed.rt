@@ -2,29 +2,9 @@ ghost use Rattle.std.specs.Prelude.{◌≡◌, ◌≤◌, IfOk, option_map};
 ghost use Rattle.sds_expressions.specs.Computed as wanted;
 
 use crate::{plain_number, split_at};
-use sds_base::{List, NoMemory, Same, Twin, Txt};
+use sds_base::{List, NoMemory, Txt};
+use sds_types::{MapPair, NodeWord, Substring};
 use std::alloc::Global;
-
-/// The node whose id a `variable` gives: the one that the row comes from, or the one that it goes to.
-#[derive(Clone, Copy, Debug, PartialEq, Eq)]
-pub enum NodeWord {
-    SourceNode,
-    TargetNode,
-}
-
-/// A piece of a text, by the places of characters from 0: from the first up to the end, or to the text's end.
-#[derive(Clone, Copy, Debug, PartialEq, Eq)]
-pub struct Piece {
-    pub first: u32,
-    pub end: Option<u32>,
-}
-
-/// A text of a source, and what stands for it.
-#[derive(Debug, Drop)]
-pub struct Pair {
-    pub source: Txt,
-    pub target: Txt,
-}
 
 /// The number of `left`: how many characters it takes, 0 to 2,000.
 pub fn left_of(text: &str) -> Option<u32>
@@ -34,16 +14,16 @@ pub fn left_of(text: &str) -> Option<u32>
 }
 
 /// The piece of `substr`: one number, or two that a comma joins, each 0 to 2,000.
-pub fn substr_of(text: &str) -> Option<Piece>
+pub fn substr_of(text: &str) -> Option<Substring>
     ensures { result ≡ wanted.substr_of text.now }
 {
     match split_at(text, ',') {
         None => match left_of(text) {
             None => None,
-            Some(first) => Some(Piece { first, end: None }),
+            Some(first) => Some(Substring { first, end: None }),
         },
         Some((front, back)) => match (left_of(front), left_of(back)) {
-            (Some(first), Some(end)) => Some(Piece {
+            (Some(first), Some(end)) => Some(Substring {
                 first,
                 end: Some(end),
             }),
@@ -53,7 +33,7 @@ pub fn substr_of(text: &str) -> Option<Piece>
 }
 
 /// The pairs of `valueMap`, which single spaces join; each is divided at its first `=`.
-pub fn value_map_of(alloc: Global, text: &str) -> Result<Option<List<Pair>>, NoMemory>
+pub fn value_map_of(alloc: Global, text: &str) -> Result<Option<List<MapPair>>, NoMemory>
     ensures { IfOk result (λ pairs. pairs ≡ wanted.value_map_of text.now) }
 {
     let mut pairs = Vec::new(alloc);
@@ -72,12 +52,12 @@ pub fn value_map_of(alloc: Global, text: &str) -> Result<Option<List<Pair>>, NoM
     Ok(Some(List::of(pairs)))
 }
 
-fn pair_of(alloc: Global, text: &str) -> Result<Option<Pair>, NoMemory>
+fn pair_of(alloc: Global, text: &str) -> Result<Option<MapPair>, NoMemory>
     ensures { IfOk result (λ pair. pair ≡ wanted.pair_of text.now) }
 {
     match split_at(text, '=') {
         None => Ok(None),
-        Some((source, target)) => Ok(Some(Pair {
+        Some((source, target)) => Ok(Some(MapPair {
             source: Txt::copied(alloc, source)?,
             target: Txt::copied(alloc, target)?,
         })),
@@ -117,32 +97,5 @@ fn negative_of(digits: &[u8]) -> Option<i32>
     match plain_number(digits, 1_000_000) {
         None | Some(0) => None,
         Some(number) => Some(-(number as i32)),
-    }
-}
-
-impl Same for NodeWord {
-    fn same(&self, other: &NodeWord) -> bool {
-        *self == *other
-    }
-}
-
-impl Same for Piece {
-    fn same(&self, other: &Piece) -> bool {
-        self.first.same(&other.first) && self.end.same(&other.end)
-    }
-}
-
-impl Same for Pair {
-    fn same(&self, other: &Pair) -> bool {
-        self.source.same(&other.source) && self.target.same(&other.target)
-    }
-}
-
-impl Twin for Pair {
-    fn twin(&self, alloc: Global) -> Result<Pair, NoMemory> {
-        Ok(Pair {
-            source: self.source.twin(alloc)?,
-            target: self.target.twin(alloc)?,
-        })
     }
 }

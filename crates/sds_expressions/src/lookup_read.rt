@@ -4,8 +4,8 @@ ghost use Rattle.std.specs.List.{starts_with};
 ghost use Rattle.sds_expressions.specs.Lookups as wanted;
 
 use crate::letters::{begins, characters_of, is_name_character, text_of};
-use crate::lookup::Lookup;
 use sds_base::{List, NoMemory, Txt};
+use sds_types::Lookup;
 use std::alloc::Global;
 
 const TABLE: [char; 13] = [
@@ -24,7 +24,7 @@ const EXTERNAL_ID: [char; 19] = [
 
 /// The keys of a `lookuptable` router's expression.
 #[derive(Clone, Copy, Debug)]
-pub enum Key {
+pub enum LookupKey {
     Table,
     Column,
     LookupColumn,
@@ -46,7 +46,7 @@ pub struct Reading {
     pub column: Option<Txt>,
     pub lookup_column: Option<Txt>,
     pub external_id: Option<Txt>,
-    pub key: Key,
+    pub key: LookupKey,
     pub word: List<char>,
     pub part: Part,
 }
@@ -83,7 +83,7 @@ fn beginning(alloc: Global) -> Reading
         column: None,
         lookup_column: None,
         external_id: None,
-        key: Key::Table,
+        key: LookupKey::Table,
         word: List::new(alloc),
         part: Part::Key,
     }
@@ -199,31 +199,31 @@ fn part_behind(reading: &Reading) -> Part
     }
 }
 
-fn put_line(reading: &mut Reading, key: Key, name: Txt)
+fn put_line(reading: &mut Reading, key: LookupKey, name: Txt)
     ensures { reading.new ≡ wanted.with_line key reading.old name }
 {
     match key {
-        Key::Table => reading.table = Some(name),
-        Key::Column => reading.column = Some(name),
-        Key::LookupColumn => reading.lookup_column = Some(name),
-        Key::ExternalId => reading.external_id = Some(name),
+        LookupKey::Table => reading.table = Some(name),
+        LookupKey::Column => reading.column = Some(name),
+        LookupKey::LookupColumn => reading.lookup_column = Some(name),
+        LookupKey::ExternalId => reading.external_id = Some(name),
     }
 }
 
-fn key_of(reading: &Reading, word: &[char]) -> Option<Key>
+fn key_of(reading: &Reading, word: &[char]) -> Option<LookupKey>
     ensures { result ≡ wanted.key_of reading.now word.now }
 {
-    if is_key(reading, word, Key::Table) {
-        return Some(Key::Table);
+    if is_key(reading, word, LookupKey::Table) {
+        return Some(LookupKey::Table);
     }
-    if is_key(reading, word, Key::Column) {
-        return Some(Key::Column);
+    if is_key(reading, word, LookupKey::Column) {
+        return Some(LookupKey::Column);
     }
-    if is_key(reading, word, Key::LookupColumn) {
-        return Some(Key::LookupColumn);
+    if is_key(reading, word, LookupKey::LookupColumn) {
+        return Some(LookupKey::LookupColumn);
     }
-    if is_key(reading, word, Key::ExternalId) {
-        return Some(Key::ExternalId);
+    if is_key(reading, word, LookupKey::ExternalId) {
+        return Some(LookupKey::ExternalId);
     }
     None
 }
@@ -231,53 +231,53 @@ fn key_of(reading: &Reading, word: &[char]) -> Option<Key>
 fn begins_any(reading: &Reading, word: &[char]) -> bool
     ensures { result ≡ wanted.begins reading.now word.now }
 {
-    begins_key(reading, word, Key::Table)
-        || begins_key(reading, word, Key::Column)
-        || begins_key(reading, word, Key::LookupColumn)
-        || begins_key(reading, word, Key::ExternalId)
+    begins_key(reading, word, LookupKey::Table)
+        || begins_key(reading, word, LookupKey::Column)
+        || begins_key(reading, word, LookupKey::LookupColumn)
+        || begins_key(reading, word, LookupKey::ExternalId)
 }
 
-fn is_key(reading: &Reading, word: &[char], key: Key) -> bool
+fn is_key(reading: &Reading, word: &[char], key: LookupKey) -> bool
     ensures { result ≡ wanted.is_key reading.now word.now key }
 {
     is_open(reading, key) && is_text(word, key)
 }
 
-fn begins_key(reading: &Reading, word: &[char], key: Key) -> bool
+fn begins_key(reading: &Reading, word: &[char], key: LookupKey) -> bool
     ensures { result ≡ wanted.begins_key reading.now word.now key }
 {
     is_open(reading, key) && begins_text(word, key)
 }
 
-fn is_open(reading: &Reading, key: Key) -> bool
+fn is_open(reading: &Reading, key: LookupKey) -> bool
     ensures { result ≡ wanted.is_open reading.now key }
 {
     match key {
-        Key::Table => reading.table.is_none(),
-        Key::Column => reading.column.is_none(),
-        Key::LookupColumn => reading.lookup_column.is_none(),
-        Key::ExternalId => reading.external_id.is_none(),
+        LookupKey::Table => reading.table.is_none(),
+        LookupKey::Column => reading.column.is_none(),
+        LookupKey::LookupColumn => reading.lookup_column.is_none(),
+        LookupKey::ExternalId => reading.external_id.is_none(),
     }
 }
 
-fn is_text(word: &[char], key: Key) -> bool
+fn is_text(word: &[char], key: LookupKey) -> bool
     ensures { result ≡ bytes_eq word.now (wanted.key_text key) }
 {
     match key {
-        Key::Table => word == TABLE.as_slice(),
-        Key::Column => word == COLUMN.as_slice(),
-        Key::LookupColumn => word == LOOKUP_COLUMN.as_slice(),
-        Key::ExternalId => word == EXTERNAL_ID.as_slice(),
+        LookupKey::Table => word == TABLE.as_slice(),
+        LookupKey::Column => word == COLUMN.as_slice(),
+        LookupKey::LookupColumn => word == LOOKUP_COLUMN.as_slice(),
+        LookupKey::ExternalId => word == EXTERNAL_ID.as_slice(),
     }
 }
 
-fn begins_text(word: &[char], key: Key) -> bool
+fn begins_text(word: &[char], key: LookupKey) -> bool
     ensures { result ≡ starts_with (λ a b. a == b) (wanted.key_text key) word.now }
 {
     match key {
-        Key::Table => begins(&TABLE, word),
-        Key::Column => begins(&COLUMN, word),
-        Key::LookupColumn => begins(&LOOKUP_COLUMN, word),
-        Key::ExternalId => begins(&EXTERNAL_ID, word),
+        LookupKey::Table => begins(&TABLE, word),
+        LookupKey::Column => begins(&COLUMN, word),
+        LookupKey::LookupColumn => begins(&LOOKUP_COLUMN, word),
+        LookupKey::ExternalId => begins(&EXTERNAL_ID, word),
     }
 }

@@ -3,8 +3,8 @@ ghost use Rattle.std.specs.Str.{chars};
 ghost use Rattle.sds_expressions.specs.Subselects as wanted;
 
 use crate::letters::{begins, characters_of, is_name_character, one, text_of};
-use crate::subselect::{Compared, Condition, NodeColumn, Subselect};
 use sds_base::{List, NoMemory};
+use sds_types::{Compared, Condition, NodeColumn, Subselect};
 use std::alloc::Global;
 
 const NODE: [char; 1] = ['c'];

@@ -1,10 +1,10 @@
 // Expressions that read, and the place at which the others leave their form.
 use crate::{
-    Compared, NodeColumn, NodeWord, Operand, Pair, Piece, behind, column_tests, left_of,
-    lookup_text, multiplier_of, plain_number, split_at, subselect_text, substr_of, value_map_of,
-    variable_of,
+    behind, column_tests, left_of, lookup_text, multiplier_of, plain_number, split_at,
+    subselect_text, substr_of, value_map_of, variable_of,
 };
 use sds_base::{Same, Twin, Txt};
+use sds_types::{Compared, MapPair, NodeColumn, NodeWord, Operand, Substring};
 use std::test::Fail;
 
 #[test]
@@ -198,14 +198,14 @@ fn the_expressions_of_columns_read(rt: HostRuntime) -> Result<(), Fail> {
     assert_eq!(rt; left_of("01"), None);
     assert_eq!(rt;
         substr_of("3"),
-        Some(Piece {
+        Some(Substring {
             first: 3,
             end: None
         })
     );
     assert_eq!(rt;
         substr_of("3,0"),
-        Some(Piece {
+        Some(Substring {
             first: 3,
             end: Some(0)
         })
@@ -225,7 +225,7 @@ fn the_expressions_of_columns_read(rt: HostRuntime) -> Result<(), Fail> {
     let pairs = value_map_of(alloc, "a=b =c *==")?.ok_or("no pairs")?;
     let items = pairs.inner().as_slice();
     assert_eq!(rt; items.len(), 3);
-    let last = Pair {
+    let last = MapPair {
         source: Txt::copied(alloc, "*")?,
         target: Txt::copied(alloc, "=")?,
     };

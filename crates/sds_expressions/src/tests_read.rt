@@ -3,8 +3,8 @@ ghost use Rattle.std.specs.Str.{chars};
 ghost use Rattle.sds_expressions.specs.ColumnTests as wanted;
 
 use crate::letters::{begins, characters_of, is_name_character, one, text_of};
-use crate::tested::{ColumnTest, Operand};
 use sds_base::{List, NoMemory};
+use sds_types::{ColumnTest, Operand};
 use std::alloc::Global;
 
 const NODE_ID: [char; 7] = ['N', 'O', 'D', 'E', '_', 'I', 'D'];

@@ -8,15 +8,15 @@ use Rattle.std.proofs.lemmas.Bool.{eqb-true, eqb-false}
 use Rattle.std.proofs.lemmas.Bool.Decides.{nat_tests}
 use Rattle.sds_value.specs.declared.row.DocRow.{DocRow}
 use Rattle.sds_value.specs.declared.row.Peer.{Peer}
-use Rattle.sds_config.specs.declared.config.Config.{Config}
-use Rattle.sds_first_spec.specs.declared.answer.Ack.{Ack}
-use Rattle.sds_first_spec.specs.declared.answer.LoadAnswer.{LoadAnswer}
-use Rattle.sds_first_spec.specs.declared.answer.LoadAnswer.TheVariants as load_answer
-use Rattle.sds_first_spec.specs.declared.answer.PeerRefusal.{PeerRefusal}
-use Rattle.sds_first_spec.specs.declared.batch.LaneIn.{LaneIn}
-use Rattle.sds_first_spec.specs.declared.batch.OutBatch.{OutBatch}
+use Rattle.sds_types.specs.declared.config.Config.{Config}
+use Rattle.sds_types.specs.declared.ack.Ack.{Ack}
+use Rattle.sds_types.specs.declared.load_answer.LoadAnswer.{LoadAnswer}
+use Rattle.sds_types.specs.declared.load_answer.LoadAnswer.TheVariants as load_answer
+use Rattle.sds_types.specs.declared.load_answer.PeerRefusal.{PeerRefusal}
+use Rattle.sds_types.specs.declared.lane.LaneIn.{LaneIn}
+use Rattle.sds_types.specs.declared.batch.OutBatch.{OutBatch}
 use Rattle.sds_first_spec.specs.declared.batch.Sent.{Sent}
-use Rattle.sds_first_spec.specs.declared.row.Change.{Change}
+use Rattle.sds_types.specs.declared.row.Change.{Change}
 use Rattle.sds_first_spec.specs.declared.row.LoadRow.{LoadRow}
 use Rattle.sds_first_spec.specs.Acts.{Act, State, History}
 use Rattle.sds_first_spec.specs.Acts.Act.{Wrote, Routed, Loaded, Acked}

@@ -4,13 +4,13 @@ use Rattle.std.specs.Prelude.{nat_le, if◌then◌else◌, All, map}
 use Rattle.std.specs.List.{flat_map}
 use Rattle.std.proofs.lemmas.List.Elements.{All-nil, All-cons}
 use Rattle.sds_value.specs.declared.row.Peer.{Peer}
-use Rattle.sds_config.specs.declared.config.Config.{Config}
-use Rattle.sds_first_spec.specs.declared.answer.Ack.{Ack}
-use Rattle.sds_first_spec.specs.declared.batch.OutBatch.{OutBatch}
-use Rattle.sds_first_spec.specs.declared.kept.KeptPeer.{KeptPeer}
-use Rattle.sds_first_spec.specs.declared.row.Change.{Change}
+use Rattle.sds_types.specs.declared.config.Config.{Config}
+use Rattle.sds_types.specs.declared.ack.Ack.{Ack}
+use Rattle.sds_types.specs.declared.batch.OutBatch.{OutBatch}
+use Rattle.sds_types.specs.declared.peer.KeptPeer.{KeptPeer}
+use Rattle.sds_types.specs.declared.row.Change.{Change}
 use Rattle.sds_first_spec.specs.declared.row.Done.{Done}
-use Rattle.sds_first_spec.specs.declared.row.TableRow.{TableRow}
+use Rattle.sds_types.specs.declared.row.TableRow.{TableRow}
 use Rattle.sds_first_spec.specs.Acks.{standing_after}
 use Rattle.sds_first_spec.specs.Acts.{Act, State}
 use Rattle.sds_first_spec.specs.Acts.Act.{Wrote, Routed, Loaded, Acked}

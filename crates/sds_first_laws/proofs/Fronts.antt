@@ -5,10 +5,10 @@ use Rattle.std.specs.List.{list_any}
 use Rattle.std.specs.Str.{bytes_eq}
 use Rattle.std.proofs.lemmas.Bool.{leb-true}
 use Rattle.std.proofs.lemmas.Bool.Decides.{nat_tests}
-use Rattle.sds_first_spec.specs.declared.answer.Ack.{Ack}
-use Rattle.sds_first_spec.specs.declared.batch.OutBatch.{OutBatch}
-use Rattle.sds_first_spec.specs.declared.batch.Standing.{Standing}
-use Rattle.sds_first_spec.specs.declared.batch.Standing.TheVariants as standing
+use Rattle.sds_types.specs.declared.ack.Ack.{Ack}
+use Rattle.sds_types.specs.declared.batch.OutBatch.{OutBatch}
+use Rattle.sds_types.specs.declared.batch.Standing.{Standing}
+use Rattle.sds_types.specs.declared.batch.Standing.TheVariants as standing
 use Rattle.sds_first_spec.specs.Acks.{is_up_to, is_acked_by, last_error, standing_after}
 use Rattle.sds_first_spec.specs.Lanes.{is_ok}
 use Rattle.sds_first_laws.specs.Counters.{Rising}

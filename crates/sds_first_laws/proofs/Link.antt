@@ -11,21 +11,21 @@ use Rattle.std.proofs.lemmas.Bool.{eqb-true, leb-true}
 use Rattle.std.proofs.lemmas.Bool.Decides.{nat_tests}
 use Rattle.sds_value.specs.declared.row.DocRow.{DocRow}
 use Rattle.sds_value.specs.declared.row.Peer.{Peer}
-use Rattle.sds_config.specs.declared.config.Config.{Config}
-use Rattle.sds_first_spec.specs.declared.answer.Ack.{Ack}
-use Rattle.sds_first_spec.specs.declared.answer.AckRefusal.{AckRefusal}
-use Rattle.sds_first_spec.specs.declared.answer.NodeFault.{NodeFault}
-use Rattle.sds_first_spec.specs.declared.answer.WriteRefusal.{WriteRefusal}
-use Rattle.sds_first_spec.specs.declared.answer.Written.{Written}
-use Rattle.sds_first_spec.specs.declared.answer.Written.TheVariants.{Done, Again}
-use Rattle.sds_first_spec.specs.declared.batch.OutBatch.{OutBatch}
+use Rattle.sds_types.specs.declared.config.Config.{Config}
+use Rattle.sds_types.specs.declared.ack.Ack.{Ack}
+use Rattle.sds_types.specs.declared.ack.AckRefusal.{AckRefusal}
+use Rattle.sds_types.specs.declared.node_fault.NodeFault.{NodeFault}
+use Rattle.sds_types.specs.declared.write_answer.WriteRefusal.{WriteRefusal}
+use Rattle.sds_types.specs.declared.write_answer.Written.{Written}
+use Rattle.sds_types.specs.declared.write_answer.Written.TheVariants.{Done, Again}
+use Rattle.sds_types.specs.declared.batch.OutBatch.{OutBatch}
 use Rattle.sds_first_spec.specs.declared.batch.Sent.{Sent}
-use Rattle.sds_first_spec.specs.declared.batch.Standing.{Standing}
-use Rattle.sds_first_spec.specs.declared.batch.Standing.TheVariants as standing
-use Rattle.sds_first_spec.specs.declared.kept.KeptPeer.{KeptPeer}
-use Rattle.sds_first_spec.specs.declared.row.Change.{Change}
+use Rattle.sds_types.specs.declared.batch.Standing.{Standing}
+use Rattle.sds_types.specs.declared.batch.Standing.TheVariants as standing
+use Rattle.sds_types.specs.declared.peer.KeptPeer.{KeptPeer}
+use Rattle.sds_types.specs.declared.row.Change.{Change}
 use Rattle.sds_first_spec.specs.declared.row.LoadRow.{LoadRow}
-use Rattle.sds_first_spec.specs.declared.row.TxRow.{TxRow}
+use Rattle.sds_types.specs.declared.tx_row.TxRow.{TxRow}
 use Rattle.sds_first_spec.specs.Acks.{is_up_to, is_acked_by, error_by, last_error, standing_after}
 use Rattle.sds_first_spec.specs.Acts.{Act, State}
 use Rattle.sds_first_spec.specs.Acts.Act.{Wrote, Routed, Loaded, Acked}

@@ -5,19 +5,19 @@ use Rattle.std.specs.Str.{bytes_eq}
 use Rattle.std.proofs.lemmas.Slice.Eq.{bytes_eq-Decides}
 use Rattle.std.proofs.lemmas.Bool.Decides.{nat_tests}
 use Rattle.sds_value.specs.declared.row.DocRow.{DocRow}
-use Rattle.sds_config.specs.declared.config.Config.{Config}
-use Rattle.sds_first_spec.specs.declared.answer.Ack.{Ack}
-use Rattle.sds_first_spec.specs.declared.answer.AckRefusal.{AckRefusal}
-use Rattle.sds_first_spec.specs.declared.answer.LoadAnswer.{LoadAnswer}
-use Rattle.sds_first_spec.specs.declared.answer.LoadAnswer.TheVariants as load_answer
-use Rattle.sds_first_spec.specs.declared.answer.NodeFault.{NodeFault}
-use Rattle.sds_first_spec.specs.declared.answer.PeerRefusal.{PeerRefusal}
-use Rattle.sds_first_spec.specs.declared.answer.WriteRefusal.{WriteRefusal}
-use Rattle.sds_first_spec.specs.declared.answer.WriteRefusal.TheVariants.{OldNumber, GapNumber}
-use Rattle.sds_first_spec.specs.declared.answer.Written.{Written}
-use Rattle.sds_first_spec.specs.declared.answer.Written.TheVariants.{Done, Again}
-use Rattle.sds_first_spec.specs.declared.kept.WriterLast.{WriterLast}
-use Rattle.sds_first_spec.specs.declared.row.TxRow.{TxRow}
+use Rattle.sds_types.specs.declared.config.Config.{Config}
+use Rattle.sds_types.specs.declared.ack.Ack.{Ack}
+use Rattle.sds_types.specs.declared.ack.AckRefusal.{AckRefusal}
+use Rattle.sds_types.specs.declared.load_answer.LoadAnswer.{LoadAnswer}
+use Rattle.sds_types.specs.declared.load_answer.LoadAnswer.TheVariants as load_answer
+use Rattle.sds_types.specs.declared.node_fault.NodeFault.{NodeFault}
+use Rattle.sds_types.specs.declared.load_answer.PeerRefusal.{PeerRefusal}
+use Rattle.sds_types.specs.declared.write_answer.WriteRefusal.{WriteRefusal}
+use Rattle.sds_types.specs.declared.write_answer.WriteRefusal.TheVariants.{OldNumber, GapNumber}
+use Rattle.sds_types.specs.declared.write_answer.Written.{Written}
+use Rattle.sds_types.specs.declared.write_answer.Written.TheVariants.{Done, Again}
+use Rattle.sds_types.specs.declared.counts.WriterLast.{WriterLast}
+use Rattle.sds_types.specs.declared.tx_row.TxRow.{TxRow}
 use Rattle.sds_first_spec.specs.Acts.{Act, State, History}
 use Rattle.sds_first_spec.specs.Acts.Act.{Wrote, Routed, Acked}
 use Rattle.sds_first_spec.specs.Calls.{by_number, by_writer, write_answer, write_acts, route_answer, route_acts, load_answer_of, load_acts, acks_answer, acks_acts, unrouted}

@@ -9,9 +9,9 @@ use Rattle.std.proofs.lemmas.List.Concat.{flat_map-cons}
 use Rattle.std.proofs.lemmas.Slice.Eq.{bytes_eq-Decides}
 use Rattle.std.proofs.lemmas.Bool.Decides.{nat_tests}
 use Rattle.sds_value.specs.declared.row.Peer.{Peer}
-use Rattle.sds_config.specs.declared.config.Config.{Config}
-use Rattle.sds_first_spec.specs.declared.batch.OutBatch.{OutBatch}
-use Rattle.sds_first_spec.specs.declared.row.Change.{Change}
+use Rattle.sds_types.specs.declared.config.Config.{Config}
+use Rattle.sds_types.specs.declared.batch.OutBatch.{OutBatch}
+use Rattle.sds_types.specs.declared.row.Change.{Change}
 use Rattle.sds_first_spec.specs.declared.row.Done.{Done}
 use Rattle.sds_first_spec.specs.Batches.{Piece, batch_of, batches_from, lane_pieces}
 use Rattle.sds_first_spec.specs.Changes.{changes_from, captured_channel, is_own_source, onto_changes}
@@ -25,9 +25,9 @@ use Rattle.sds_first_spec.specs.One.{one, paired}
 use Rattle.sds_first_spec.specs.Capture.{steps_of}
 use Rattle.sds_first_spec.specs.Outcome.{load_steps}
 use Rattle.sds_first_spec.specs.Routing.{is_named}
-use Rattle.sds_first_spec.specs.declared.row.RowStep.{RowStep}
-use Rattle.sds_first_spec.specs.declared.answer.Ack.{Ack}
-use Rattle.sds_first_spec.specs.declared.kept.KeptPeer.{KeptPeer}
+use Rattle.sds_types.specs.declared.row.RowStep.{RowStep}
+use Rattle.sds_types.specs.declared.ack.Ack.{Ack}
+use Rattle.sds_types.specs.declared.peer.KeptPeer.{KeptPeer}
 use Rattle.sds_first_spec.proofs.CutLaw.{cut_is_cut}
 use Rattle.sds_first_laws.proofs.Counted.{BatchUpTo, act_lowers_none, batches_within}
 use Rattle.sds_first_laws.specs.Once.{StaysRoutedOnce}

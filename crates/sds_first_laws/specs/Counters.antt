@@ -1,11 +1,11 @@
 -- A node's counters never fall, and what it numbers stays within them.
 use Rattle.std.specs.Prelude.{ℕ, ◌<◌, ◌≤◌, List, [], ◌∷◌, ◌++◌, All}
 use Rattle.sds_value.specs.declared.row.Peer.{Peer}
-use Rattle.sds_config.specs.declared.config.Config.{Config}
-use Rattle.sds_first_spec.specs.declared.batch.OutBatch.{OutBatch}
-use Rattle.sds_first_spec.specs.declared.kept.Counts.{Counts}
-use Rattle.sds_first_spec.specs.declared.kept.KeptPeer.{KeptPeer}
-use Rattle.sds_first_spec.specs.declared.row.Change.{Change}
+use Rattle.sds_types.specs.declared.config.Config.{Config}
+use Rattle.sds_types.specs.declared.batch.OutBatch.{OutBatch}
+use Rattle.sds_types.specs.declared.counts.Counts.{Counts}
+use Rattle.sds_types.specs.declared.peer.KeptPeer.{KeptPeer}
+use Rattle.sds_types.specs.declared.row.Change.{Change}
 use Rattle.sds_first_spec.specs.Acts.{Act, State}
 use Rattle.sds_first_spec.specs.History.{counts_of, state_of}
 use Rattle.sds_first_spec.specs.One.{begun}

@@ -2,9 +2,9 @@
 -- A message that is never delivered is lost, and one may be delivered again and again, in any order; so may a reply.
 use Rattle.std.specs.Prelude.{◌≡◌, ℕ, true, is_none, List, [], ◌∷◌, Option, None, Some, slice_get, All}
 use Rattle.sds_value.specs.declared.row.Peer.{Peer}
-use Rattle.sds_config.specs.declared.config.Config.{Config}
-use Rattle.sds_first_spec.specs.declared.answer.Ack.{Ack}
-use Rattle.sds_first_spec.specs.declared.row.TxRow.{TxRow}
+use Rattle.sds_types.specs.declared.config.Config.{Config}
+use Rattle.sds_types.specs.declared.ack.Ack.{Ack}
+use Rattle.sds_types.specs.declared.tx_row.TxRow.{TxRow}
 use Rattle.sds_first_spec.specs.Acts.{History}
 use Rattle.sds_first_spec.specs.History.{state_of}
 use Rattle.sds_first_spec.specs.InStep.{LaneInStep, PartInStep, is_taken}

@@ -1,10 +1,10 @@
 -- A message that a receiver takes by its calls: one load after another, each by the number of its batch, up to the first that isn't answered as loaded.
 use Rattle.std.specs.Prelude.{ℕ, Bool, true, false, if◌then◌else◌, List, [], ◌∷◌, ◌++◌, None, Result, Ok, Err}
-use Rattle.sds_config.specs.declared.config.Config.{Config}
-use Rattle.sds_first_spec.specs.declared.answer.Ack.{Ack}
-use Rattle.sds_first_spec.specs.declared.answer.LoadAnswer.{LoadAnswer}
-use Rattle.sds_first_spec.specs.declared.answer.LoadAnswer.TheVariants.{Loaded, Ignored, Again, Erred, Held}
-use Rattle.sds_first_spec.specs.declared.answer.PeerRefusal.{PeerRefusal}
+use Rattle.sds_types.specs.declared.config.Config.{Config}
+use Rattle.sds_types.specs.declared.ack.Ack.{Ack}
+use Rattle.sds_types.specs.declared.load_answer.LoadAnswer.{LoadAnswer}
+use Rattle.sds_types.specs.declared.load_answer.LoadAnswer.TheVariants.{Loaded, Ignored, Again, Erred, Held}
+use Rattle.sds_types.specs.declared.load_answer.PeerRefusal.{PeerRefusal}
 use Rattle.sds_first_spec.specs.declared.batch.Sent.{Sent}
 use Rattle.sds_first_spec.specs.Acts.{State, History}
 use Rattle.sds_first_spec.specs.Calls.{load_answer_of, load_acts}

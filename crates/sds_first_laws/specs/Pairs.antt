@@ -9,7 +9,7 @@ use Rattle.sds_value.specs.declared.row.Peer.{Peer}
 use Rattle.sds_first_spec.specs.declared.batch.Sent.{Sent}
 use Rattle.sds_first_spec.specs.declared.event.WorldEvent.{WorldEvent}
 use Rattle.sds_first_spec.specs.declared.event.WorldEvent.TheVariants.{Node, Open, Register, Write, Route, Push, Show}
-use Rattle.sds_first_spec.specs.declared.row.TxRow.{TxRow}
+use Rattle.sds_types.specs.declared.tx_row.TxRow.{TxRow}
 use Rattle.sds_first_spec.specs.Acts.{Act, History}
 use Rattle.sds_first_spec.specs.Calls.{is_peer, offer_answer}
 use Rattle.sds_first_spec.specs.Capture.{is_own_insert}

@@ -2,10 +2,10 @@
 use Rattle.std.specs.Prelude.{ℕ, List, [], ◌∷◌, ◌++◌}
 use Rattle.sds_value.specs.declared.row.DocRow.{DocRow}
 use Rattle.sds_value.specs.declared.row.Peer.{Peer}
-use Rattle.sds_config.specs.declared.config.Config.{Config}
-use Rattle.sds_first_spec.specs.declared.answer.Ack.{Ack}
-use Rattle.sds_first_spec.specs.declared.kept.KeptPeer.{KeptPeer}
-use Rattle.sds_first_spec.specs.declared.row.TxRow.{TxRow}
+use Rattle.sds_types.specs.declared.config.Config.{Config}
+use Rattle.sds_types.specs.declared.ack.Ack.{Ack}
+use Rattle.sds_types.specs.declared.peer.KeptPeer.{KeptPeer}
+use Rattle.sds_types.specs.declared.tx_row.TxRow.{TxRow}
 use Rattle.sds_first_spec.specs.Acts.{Act, State, History}
 use Rattle.sds_first_spec.specs.Calls.{write_answer, write_acts, route_answer, route_acts, load_answer_of, load_acts, acks_answer, acks_acts}
 use Rattle.sds_first_spec.specs.History.{state_of}

@@ -2,7 +2,7 @@
 use Rattle.std.proofs.Common.{◌≡◌, ◌≢◌, ℕ, [], ◌∷◌, None, refl, suc, zero, map, codes}
 use Rattle.std.specs.Prelude.{slice_get}
 use Rattle.std.specs.Str.{chars}
-use Rattle.sds_first_spec.specs.declared.row.Change.{Change}
+use Rattle.sds_types.specs.declared.row.Change.{Change}
 use Rattle.sds_first_spec.specs.Lanes.{doc_of, field_of, values_of}
 use Rattle.sds_first_spec.specs.One.{one, pair_table}
 use Rattle.sds_first_node.specs.Documents.{doc_with, pair_doc}

@@ -4,8 +4,8 @@ use Rattle.std.specs.Str.{bytes_eq}
 use Rattle.std.proofs.lemmas.Bool.{eq-eqb}
 use Rattle.std.proofs.lemmas.List.{drop_more, set_split}
 use Rattle.std.proofs.lemmas.Option.{slice_get-get_or}
-use Rattle.sds_first_spec.specs.declared.kept.WriterLast.{WriterLast}
-use Rattle.sds_first_spec.specs.declared.batch.LaneIn.{LaneIn}
+use Rattle.sds_types.specs.declared.counts.WriterLast.{WriterLast}
+use Rattle.sds_types.specs.declared.lane.LaneIn.{LaneIn}
 use Rattle.sds_first_spec.specs.Kept.{writer_in, with_writer, is_lane, with_lane}
 use Rattle.sds_first_node.specs.Finding.{IsWriterAt, IsLaneAt}
 

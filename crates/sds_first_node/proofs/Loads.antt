@@ -12,17 +12,17 @@ use Rattle.sds_value.specs.declared.row.Field.{Field}
 use Rattle.sds_value.specs.declared.table.ColumnDef.{ColumnDef}
 use Rattle.sds_value.specs.declared.kind.Kind.TheVariants.{Integer, Varchar}
 use Rattle.sds_first_spec.specs.declared.row.LoadRow.{LoadRow}
-use Rattle.sds_first_spec.specs.declared.row.Row.{Row}
-use Rattle.sds_first_spec.specs.declared.row.TableRow.{TableRow}
+use Rattle.sds_types.specs.declared.row.Row.{Row}
+use Rattle.sds_types.specs.declared.row.TableRow.{TableRow}
 use Rattle.sds_first_spec.specs.Capture.{after_all, field_value, is_allowed, are_allowed, is_insert, row_values}
 use Rattle.sds_first_spec.specs.One.{one}
 use Rattle.sds_first_spec.specs.Outcome.{is_whole_insert, read_row, read_rows, with_values, insert_by, load_step, load_steps}
 use Rattle.sds_first_spec.specs.Places.{columns_of, column_place}
 use Rattle.sds_first_spec.specs.Tables.{key_of, is_at, row_at, after}
 use Rattle.sds_first_spec.specs.Texts.{same_texts}
-use Rattle.sds_first_spec.specs.declared.answer.LoadAnswer.TheVariants.{Again, Loaded}
-use Rattle.sds_first_spec.specs.declared.answer.NodeFault.TheVariants.{Counters}
-use Rattle.sds_first_spec.specs.declared.answer.PeerRefusal.TheVariants.{UnknownNode, Fault}
+use Rattle.sds_types.specs.declared.load_answer.LoadAnswer.TheVariants.{Again, Loaded}
+use Rattle.sds_types.specs.declared.node_fault.NodeFault.TheVariants.{Counters}
+use Rattle.sds_types.specs.declared.load_answer.PeerRefusal.TheVariants.{UnknownNode, Fault}
 use Rattle.sds_first_spec.specs.Acts.{State, History}
 use Rattle.sds_first_spec.specs.Acts.Act.{Loaded as ActLoaded}
 use Rattle.sds_first_spec.specs.Calls.{is_peer, may_count, load_answer_of}

@@ -4,7 +4,7 @@ use Rattle.std.specs.Prelude.{filter, ◌-◌}
 use Rattle.std.proofs.lemmas.Bool.Decides.{nat_tests}
 use Rattle.std.specs.Str.{bytes_eq}
 use Rattle.std.proofs.lemmas.List.Elements.{All-head}
-use Rattle.sds_first_spec.specs.declared.batch.OutBatch.{OutBatch}
+use Rattle.sds_types.specs.declared.batch.OutBatch.{OutBatch}
 use Rattle.sds_first_spec.specs.Acts.{State}
 use Rattle.sds_first_spec.specs.Calls.{is_peer, offer_answer}
 use Rattle.sds_first_spec.specs.Lanes.{is_ok, is_erred, to_error, channels_of}

@@ -4,10 +4,10 @@ use Rattle.std.specs.Prelude.{if◌then◌else◌, filter, nat_lt}
 use Rattle.std.specs.List.{list_any}
 use Rattle.std.proofs.lemmas.Bool.Decides.{nat_tests}
 use Rattle.std.proofs.lemmas.List.{length-map}
-use Rattle.sds_first_spec.specs.declared.answer.NodeFault.{NodeFault}
-use Rattle.sds_first_spec.specs.declared.batch.OutBatch.{OutBatch}
-use Rattle.sds_first_spec.specs.declared.kept.KeptPeer.{KeptPeer}
-use Rattle.sds_first_spec.specs.declared.row.Change.{Change}
+use Rattle.sds_types.specs.declared.node_fault.NodeFault.{NodeFault}
+use Rattle.sds_types.specs.declared.batch.OutBatch.{OutBatch}
+use Rattle.sds_types.specs.declared.peer.KeptPeer.{KeptPeer}
+use Rattle.sds_types.specs.declared.row.Change.{Change}
 use Rattle.sds_first_spec.specs.Acts.{State, History}
 use Rattle.sds_first_spec.specs.Acts.Act.{Routed}
 use Rattle.sds_first_spec.specs.Batches.{Piece, batches_from}

@@ -3,7 +3,7 @@ use Rattle.std.proofs.Common.{◌≡◌, ℕ, ◌≤◌, List, [], ◌∷◌, �
 use Rattle.std.specs.Prelude.{slice_set}
 use Rattle.std.proofs.lemmas.List.{drop_all, take-append-drop}
 use Rattle.sds_value.specs.declared.kind.Value.{Value}
-use Rattle.sds_first_spec.specs.declared.row.TableRow.{TableRow}
+use Rattle.sds_types.specs.declared.row.TableRow.{TableRow}
 use Rattle.sds_first_spec.specs.One.{one}
 use Rattle.sds_first_spec.specs.Tables.{key_of}
 use Rattle.sds_first_node.specs.Loaded.{overwritten, updated, with_row, IsRowAt}

@@ -4,10 +4,10 @@ use Rattle.std.specs.Prelude.{if◌then◌else◌, nat_lt}
 use Rattle.std.proofs.lemmas.List.Elements.{All-head, All-tail}
 use Rattle.std.specs.Str.{bytes_eq}
 use Rattle.sds_value.specs.declared.kind.Value.{Value}
-use Rattle.sds_first_spec.specs.declared.row.TableRow.{TableRow}
-use Rattle.sds_first_spec.specs.declared.row.TxRow.{TxRow}
-use Rattle.sds_first_spec.specs.declared.answer.WriteRefusal.{WriteRefusal}
-use Rattle.sds_first_spec.specs.declared.answer.Written.{Written}
+use Rattle.sds_types.specs.declared.row.TableRow.{TableRow}
+use Rattle.sds_types.specs.declared.tx_row.TxRow.{TxRow}
+use Rattle.sds_types.specs.declared.write_answer.WriteRefusal.{WriteRefusal}
+use Rattle.sds_types.specs.declared.write_answer.Written.{Written}
 use Rattle.std.proofs.lemmas.Bool.Decides.{nat_tests}
 use Rattle.sds_first_spec.specs.Acts.{State, History, Act}
 use Rattle.sds_first_spec.specs.Acts.Act.{Wrote}

@@ -3,7 +3,7 @@ use Rattle.std.specs.Prelude.{ℕ, List, [], ◌∷◌, map, filter_map, None, c
 use Rattle.sds_value.specs.declared.row.DocRow.{DocRow}
 use Rattle.sds_value.specs.declared.row.Event.{Event}
 use Rattle.sds_value.specs.declared.row.Field.{Field}
-use Rattle.sds_first_spec.specs.declared.row.Change.{Change}
+use Rattle.sds_types.specs.declared.row.Change.{Change}
 use Rattle.sds_first_spec.specs.Lanes.{change_at, doc_of}
 use Rattle.sds_first_spec.specs.One.{one}
 

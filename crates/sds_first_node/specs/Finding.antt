@@ -1,7 +1,7 @@
 -- What a place in one of a node's lists means for looking up and for putting in its place.
 use Rattle.std.specs.Prelude.{◌≡◌, ℕ, ◌<◌, List, [], ◌∷◌, ◌++◌, length, None, slice_get, slice_set}
-use Rattle.sds_first_spec.specs.declared.batch.LaneIn.{LaneIn}
-use Rattle.sds_first_spec.specs.declared.kept.WriterLast.{WriterLast}
+use Rattle.sds_types.specs.declared.lane.LaneIn.{LaneIn}
+use Rattle.sds_types.specs.declared.counts.WriterLast.{WriterLast}
 use Rattle.sds_first_spec.specs.Kept.{writer_in, with_writer, with_lane}
 
 -- nothing is kept of the writer

@@ -2,11 +2,11 @@
 use Rattle.std.specs.Prelude.{◌≡◌, ℕ, ◌+◌, Bool, true, if◌then◌else◌, List, [], ◌∷◌, ◌++◌, length, map, All, Option, None, Some, codes}
 use Rattle.std.specs.Str.{bytes_eq}
 use Rattle.sds_value.specs.declared.row.Event.TheVariants.{Insert}
-use Rattle.sds_first_spec.specs.declared.row.Change.{Change}
-use Rattle.sds_first_spec.specs.declared.row.TableRow.{TableRow}
-use Rattle.sds_first_spec.specs.declared.row.TxRow.{TxRow}
-use Rattle.sds_first_spec.specs.declared.rule.Rule.{Rule}
-use Rattle.sds_first_spec.specs.declared.rule.Rule.TheVariants.{DuplicateKey}
+use Rattle.sds_types.specs.declared.row.Change.{Change}
+use Rattle.sds_types.specs.declared.row.TableRow.{TableRow}
+use Rattle.sds_types.specs.declared.tx_row.TxRow.{TxRow}
+use Rattle.sds_types.specs.declared.rule.Rule.{Rule}
+use Rattle.sds_types.specs.declared.rule.Rule.TheVariants.{DuplicateKey}
 use Rattle.sds_first_spec.specs.Capture.{is_own_insert, row_values, by_rule}
 use Rattle.sds_first_spec.specs.Acts.{State}
 use Rattle.sds_first_spec.specs.One.{one}

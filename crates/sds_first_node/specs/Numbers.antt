@@ -1,8 +1,8 @@
 -- What a write is answered by its number alone.
 use Rattle.std.specs.Prelude.{◌≡◌, ℕ, List, [], Result}
-use Rattle.sds_first_spec.specs.declared.answer.WriteRefusal.{WriteRefusal}
-use Rattle.sds_first_spec.specs.declared.answer.Written.{Written}
-use Rattle.sds_first_spec.specs.declared.row.TxRow.{TxRow}
+use Rattle.sds_types.specs.declared.write_answer.WriteRefusal.{WriteRefusal}
+use Rattle.sds_types.specs.declared.write_answer.Written.{Written}
+use Rattle.sds_types.specs.declared.tx_row.TxRow.{TxRow}
 use Rattle.sds_first_spec.specs.Acts.{State}
 use Rattle.sds_first_spec.specs.Calls.{by_writer, write_acts}
 use Rattle.sds_first_spec.specs.Kept.{writer_in}

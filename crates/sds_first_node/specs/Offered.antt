@@ -1,8 +1,8 @@
 -- Which of a node's batches an offer and a call for rows name.
 use Rattle.std.specs.Prelude.{ℕ, ◌-◌, Bool, ◌&&◌, ◌==◌, not, if◌then◌else◌, List, [], ◌∷◌, map, flat_map}
 use Rattle.std.specs.Str.{bytes_eq}
-use Rattle.sds_config.specs.declared.config.Config.{Config}
-use Rattle.sds_first_spec.specs.declared.batch.OutBatch.{OutBatch}
+use Rattle.sds_types.specs.declared.config.Config.{Config}
+use Rattle.sds_types.specs.declared.batch.OutBatch.{OutBatch}
 use Rattle.sds_first_spec.specs.Acts.{State}
 use Rattle.sds_first_spec.specs.Lanes.{is_ok, is_erred, offered_in, channels_of}
 

@@ -1,11 +1,11 @@
 -- What a routing run does, in the one configuration and in one pass over the changes.
 use Rattle.std.specs.Prelude.{ℕ, ◌+◌, Bool, ◌&&◌, ◌==◌, not, nat_lt, nat_le, if◌then◌else◌, List, [], ◌∷◌, ◌++◌, length, map, filter, Result, Ok, Err}
 use Rattle.sds_value.specs.declared.row.Peer.{Peer}
-use Rattle.sds_first_spec.specs.declared.answer.NodeFault.{NodeFault}
-use Rattle.sds_first_spec.specs.declared.answer.NodeFault.TheVariants.{Counters}
-use Rattle.sds_first_spec.specs.declared.batch.OutBatch.{OutBatch}
-use Rattle.sds_first_spec.specs.declared.batch.Standing.TheVariants.{New}
-use Rattle.sds_first_spec.specs.declared.row.Change.{Change}
+use Rattle.sds_types.specs.declared.node_fault.NodeFault.{NodeFault}
+use Rattle.sds_types.specs.declared.node_fault.NodeFault.TheVariants.{Counters}
+use Rattle.sds_types.specs.declared.batch.OutBatch.{OutBatch}
+use Rattle.sds_types.specs.declared.batch.Standing.TheVariants.{New}
+use Rattle.sds_types.specs.declared.row.Change.{Change}
 use Rattle.sds_first_spec.specs.Acts.{State}
 use Rattle.sds_first_spec.specs.Batches.{Piece}
 use Rattle.sds_first_spec.specs.Calls.{may_add, route_pieces}

@@ -1,8 +1,8 @@
 -- The standings of batches as a list of their own, in the order of the batches.
 use Rattle.std.specs.Prelude.{ℕ, ◌+◌, if◌then◌else◌, List, [], ◌∷◌}
-use Rattle.sds_first_spec.specs.declared.answer.Ack.{Ack}
-use Rattle.sds_first_spec.specs.declared.batch.OutBatch.{OutBatch}
-use Rattle.sds_first_spec.specs.declared.batch.Standing.{Standing}
+use Rattle.sds_types.specs.declared.ack.Ack.{Ack}
+use Rattle.sds_types.specs.declared.batch.OutBatch.{OutBatch}
+use Rattle.sds_types.specs.declared.batch.Standing.{Standing}
 use Rattle.sds_first_spec.specs.Acks.{standing_after, same_standing}
 
 -- the standing of each of these batches, which are among all, after acks

@@ -1,11 +1,11 @@
 -- What an act makes of a state.
 use Rattle.std.specs.Prelude.{ℕ, ◌+◌, List, ◌++◌, length, None, Some, false}
-use Rattle.sds_first_spec.specs.declared.answer.Ack.{Ack}
-use Rattle.sds_first_spec.specs.declared.batch.OutBatch.{OutBatch}
-use Rattle.sds_first_spec.specs.declared.row.Change.{Change}
+use Rattle.sds_types.specs.declared.ack.Ack.{Ack}
+use Rattle.sds_types.specs.declared.batch.OutBatch.{OutBatch}
+use Rattle.sds_types.specs.declared.row.Change.{Change}
 use Rattle.sds_first_spec.specs.declared.row.LoadRow.{LoadRow}
-use Rattle.sds_first_spec.specs.declared.row.TableRow.{TableRow}
-use Rattle.sds_first_spec.specs.declared.row.TxRow.{TxRow}
+use Rattle.sds_types.specs.declared.row.TableRow.{TableRow}
+use Rattle.sds_types.specs.declared.tx_row.TxRow.{TxRow}
 use Rattle.sds_first_spec.specs.Acks.{acknowledged}
 use Rattle.sds_first_spec.specs.Acts.{State}
 use Rattle.sds_first_spec.specs.Batches.{batches_from}

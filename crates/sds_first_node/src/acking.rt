@@ -2,13 +2,13 @@
 ghost use Rattle.std.specs.Prelude.{◌≡◌, ◌<◌, ◌≤◌, ◌+◌, ◌++◌, ◌&&◌, ◌==◌, not, ℕ, List, IfOk, MatchOption, Some, None, length, take, drop, count_by, map};
 ghost use Rattle.std.specs.List.{list_any};
 ghost use Rattle.std.specs.Str.{bytes_eq, chars};
-ghost use Rattle.sds_first_spec.specs.declared.batch.OutBatch.{OutBatch};
+ghost use Rattle.sds_types.specs.declared.batch.OutBatch.{OutBatch};
 ghost use Rattle.sds_first_spec.specs.Acks.{is_up_to, is_acked_by, last_error, standing_after, same_standing};
 ghost use Rattle.sds_first_spec.specs.Calls.{is_batch_to, unknown_batch};
 ghost use Rattle.sds_first_node.specs.Standings.{standings_of, differing, with_standings};
 
 use sds_base::NoMemory;
-use sds_first_spec::{Ack, OutBatch, Standing};
+use sds_types::{Ack, OutBatch, Standing};
 use std::alloc::Global;
 
 /// Whether a batch of this number goes to this peer.

@@ -7,7 +7,7 @@ ghost use Rattle.sds_first_spec.specs.Calls.{may_add};
 ghost use Rattle.sds_first_node.specs.Finding.{IsNoWriter, IsWriterAt, IsNoLane, IsLaneAt};
 
 use sds_base::Txt;
-use sds_first_spec::{LaneIn, WriterLast};
+use sds_types::{LaneIn, WriterLast};
 use sds_value::Value;
 
 /// Where a counter ends.

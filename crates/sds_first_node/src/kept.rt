@@ -4,11 +4,11 @@ ghost use Rattle.sds_first_spec.specs.Acts.Act.{Wrote};
 ghost use Rattle.sds_first_spec.specs.Calls.{may_add, may_count, written_by, write_acts, is_peer, acks_by};
 ghost use Rattle.sds_first_spec.specs.Kept.{highest_in};
 ghost use Rattle.sds_first_spec.specs.One.{paired};
-ghost use Rattle.sds_first_spec.specs.declared.row.TxRow.{TxRow};
+ghost use Rattle.sds_types.specs.declared.tx_row.TxRow.{TxRow};
 ghost use Rattle.sds_first_node.specs.NewRows.{first_taken, captured_at, count_at};
 ghost use Rattle.sds_first_node.specs.Loaded.{taken_in};
 ghost use Rattle.sds_first_node.specs.Numbers.{IsNextNumber, IsNumberAnswer};
-ghost use Rattle.sds_first_spec.specs.declared.answer.Ack.{Ack};
+ghost use Rattle.sds_types.specs.declared.ack.Ack.{Ack};
 ghost use Rattle.sds_first_node.specs.Standings.{standings_of};
 ghost use Rattle.sds_first_node.specs.Routed.{is_waiting, next_ids, batches_by};
 ghost use Rattle.sds_first_node.specs.Steps.{accepted, routed, with_batches, acked};
@@ -21,7 +21,7 @@ use crate::loading::put_rows;
 use crate::routing::{CHANNEL, cut_changes, is_waiting, number_batches};
 use crate::writing::{first_taken, judge_number, number_rows};
 use sds_base::{List, NoMemory, Txt};
-use sds_first_spec::{
+use sds_types::{
     Ack, AckRefusal, Change, Counts, KeptPeer, LaneIn, NodeFault, OutBatch, Standing, TableRow,
     WriteRefusal, WriterLast, Written,
 };

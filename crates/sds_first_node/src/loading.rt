@@ -5,7 +5,7 @@ ghost use Rattle.sds_first_node.specs.Loaded.{doc_row, overwritten, updated, wit
 
 use crate::rows::{TABLE, read_row, row_place};
 use sds_base::{List, NoMemory};
-use sds_first_spec::{Row, TableRow};
+use sds_types::{Row, TableRow};
 use sds_value::{DocRow, Value};
 use std::alloc::Global;
 use std::collections::VecDeque;

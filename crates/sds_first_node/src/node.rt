@@ -20,7 +20,7 @@ use crate::offering::{batch_at, make_docs, offered};
 use crate::shown::put_table;
 use crate::writing::read_own_rows;
 use sds_base::{List, NoMemory};
-use sds_first_spec::{
+use sds_types::{
     Ack, AckRefusal, LoadAnswer, NodeFault, PeerRefusal, Standing, TxRow, WriteRefusal, Written,
 };
 use sds_value::{DocRow, Peer};

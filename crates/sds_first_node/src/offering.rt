@@ -9,7 +9,7 @@ ghost use Rattle.sds_first_node.specs.Offered.{is_open, open_ids};
 use crate::routing::CHANNEL;
 use crate::rows::TABLE;
 use sds_base::{List, NoMemory, Txt};
-use sds_first_spec::{Change, OutBatch, Standing};
+use sds_types::{Change, OutBatch, Standing};
 use sds_value::{DocRow, Event, Field, Value};
 use std::alloc::Global;
 

@@ -2,7 +2,7 @@
 ghost use Rattle.std.specs.Prelude.{◌≡◌, ◌<◌, ◌≤◌, ◌+◌, ◌^◌, ◌++◌, ◌∷◌, ◌&&◌, [], List, IfOk, OnOk, OnErr, length};
 ghost use Rattle.std.specs.List.{list_any};
 ghost use Rattle.std.specs.VecDeque.{deque_len};
-ghost use Rattle.sds_first_spec.specs.declared.row.TableRow.{TableRow};
+ghost use Rattle.sds_types.specs.declared.row.TableRow.{TableRow};
 ghost use Rattle.sds_first_spec.specs.Routing.{came_from, is_named};
 ghost use Rattle.sds_first_spec.specs.One.{one};
 ghost use Rattle.sds_first_node.specs.Routed.{is_waiting, is_in_lane, lane_of, last_ids, ends_before, cut_on, out_batches};
@@ -10,7 +10,7 @@ ghost use Rattle.sds_first_node.specs.Routed.{is_waiting, is_in_lane, lane_of, l
 use crate::find::{is_corp, is_store};
 use crate::rows::TABLE;
 use sds_base::{List, NoMemory, Twin, Txt};
-use sds_first_spec::{Change, OutBatch, Standing};
+use sds_types::{Change, OutBatch, Standing};
 use sds_value::Peer;
 use std::alloc::Global;
 use std::collections::VecDeque;

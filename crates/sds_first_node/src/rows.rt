@@ -8,7 +8,7 @@ ghost use Rattle.sds_first_node.specs.Loaded.{IsNoRow, IsRowAt};
 
 use crate::find::same_value;
 use sds_base::{List, NoMemory};
-use sds_first_spec::{Row, TableRow};
+use sds_types::{Row, TableRow};
 use sds_value::{Binary, Field, Kind, Value, ValueRefusal};
 use std::alloc::Global;
 

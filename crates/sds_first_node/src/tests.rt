@@ -11,7 +11,7 @@ ghost use Rattle.sds_first_node.specs.NewRows.{ArePairRows};
 
 use crate::Node;
 use sds_base::{List, NoMemory, Same, Txt};
-use sds_first_spec::{Ack, TxRow};
+use sds_types::{Ack, TxRow};
 use sds_value::{Binary, DocRow, Event, Field, Kind, Peer, Value, ValueRefusal, is_name};
 use std::alloc::Global;
 use std::process::Abort;

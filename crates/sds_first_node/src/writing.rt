@@ -2,18 +2,18 @@
 ghost use Rattle.std.specs.Prelude.{◌≡◌, ◌<◌, ◌≤◌, ◌+◌, ◌^◌, ◌++◌, ◌∷◌, [], ℕ, List, Result, IfOk, OnOk, OnErr, MatchOption, Some, None, Ok, Err, length, codes, map, vec_len};
 ghost use Rattle.std.specs.Str.{bytes_eq, chars};
 ghost use Rattle.sds_first_spec.specs.Calls.{by_writer, write_acts};
-ghost use Rattle.sds_first_spec.specs.declared.row.TxRow.{TxRow};
+ghost use Rattle.sds_types.specs.declared.tx_row.TxRow.{TxRow};
 ghost use Rattle.sds_first_spec.specs.Kept.{writer_in};
 ghost use Rattle.sds_first_spec.specs.One.{one};
 ghost use Rattle.sds_first_spec.specs.Tables.{key_of, stands};
-ghost use Rattle.sds_first_spec.specs.declared.answer.WriteRefusal.{WriteRefusal};
-ghost use Rattle.sds_first_spec.specs.declared.answer.Written.{Written};
+ghost use Rattle.sds_types.specs.declared.write_answer.WriteRefusal.{WriteRefusal};
+ghost use Rattle.sds_types.specs.declared.write_answer.Written.{Written};
 ghost use Rattle.sds_first_node.specs.NewRows.{new_rows, first_taken, numbered};
 
 use crate::find::writer_place;
 use crate::rows::{TABLE, is_in, read_row};
 use sds_base::{NoMemory, Twin};
-use sds_first_spec::{Change, Rule, TableRow, TxRow, WriteRefusal, WriterLast, Written};
+use sds_types::{Change, Rule, TableRow, TxRow, WriteRefusal, WriterLast, Written};
 use sds_value::Event;
 use std::alloc::Global;
 

@@ -3,7 +3,7 @@ use Rattle.std.proofs.Common.{◌≡◌, ◌≢◌, ℕ, ◌+◌, ◌<◌, ◌�
 use Rattle.std.specs.Prelude.{nat_le, if◌then◌else◌}
 use Rattle.std.proofs.lemmas.Bool.{leb-true, leb-false, eqb-true, eqb-false}
 use Rattle.std.proofs.lemmas.List.{append_assoc, length-append}
-use Rattle.sds_first_spec.specs.declared.row.Change.{Change}
+use Rattle.sds_types.specs.declared.row.Change.{Change}
 use Rattle.sds_first_spec.specs.Cuts.{onto_run, runs_of, gathered, joined, EndsBefore, IsFirstFull, IsCut, CutIsTheCut}
 
 -- JOINED. Runs and pieces join to the changes that they are made of.

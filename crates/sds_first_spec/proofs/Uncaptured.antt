@@ -2,8 +2,8 @@
 use Rattle.std.proofs.Common.{◌≡◌, ℕ, Bool, true, false, ◌==◌, List, [], ◌∷◌, Option, None, Some, refl}
 use Rattle.std.specs.Prelude.{if◌then◌else◌}
 use Rattle.sds_first_spec.specs.declared.row.Done.{Done}
-use Rattle.sds_first_spec.specs.declared.row.RowStep.{RowStep}
-use Rattle.sds_first_spec.specs.declared.row.RowStep.TheVariants.{Insert, Update, Delete}
+use Rattle.sds_types.specs.declared.row.RowStep.{RowStep}
+use Rattle.sds_types.specs.declared.row.RowStep.TheVariants.{Insert, Update, Delete}
 use Rattle.sds_first_spec.specs.Changes.{changes_from, captured_channel}
 use Rattle.sds_first_spec.specs.One.{one}
 

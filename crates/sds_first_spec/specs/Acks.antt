@@ -2,10 +2,10 @@
 use Rattle.std.specs.Prelude.{ℕ, Bool, true, false, ◌&&◌, ◌==◌, not, nat_le, is_none, if◌then◌else◌, List, [], ◌∷◌, map, Option, None, Some, count_by}
 use Rattle.std.specs.List.{list_any}
 use Rattle.std.specs.Str.{bytes_eq}
-use Rattle.sds_first_spec.specs.declared.answer.Ack.{Ack}
-use Rattle.sds_first_spec.specs.declared.batch.OutBatch.{OutBatch}
-use Rattle.sds_first_spec.specs.declared.batch.Standing.{Standing}
-use Rattle.sds_first_spec.specs.declared.batch.Standing.TheVariants.{New, Erred, Acked}
+use Rattle.sds_types.specs.declared.ack.Ack.{Ack}
+use Rattle.sds_types.specs.declared.batch.OutBatch.{OutBatch}
+use Rattle.sds_types.specs.declared.batch.Standing.{Standing}
+use Rattle.sds_types.specs.declared.batch.Standing.TheVariants.{New, Erred, Acked}
 
 -- whether a batch is of the lane of the batch with this number, and goes no later
 abbrev pub is_up_to : List OutBatch → ℕ → OutBatch → Bool

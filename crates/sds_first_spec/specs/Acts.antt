@@ -1,16 +1,16 @@
 -- What one commit of a node does, what a node has, and its history.
 use Rattle.std.specs.Prelude.{ℕ, List}
 use Rattle.sds_value.specs.declared.row.Peer.{Peer}
-use Rattle.sds_first_spec.specs.declared.answer.Ack.{Ack}
-use Rattle.sds_first_spec.specs.declared.batch.LaneIn.{LaneIn}
-use Rattle.sds_first_spec.specs.declared.batch.OutBatch.{OutBatch}
-use Rattle.sds_first_spec.specs.declared.kept.Counts.{Counts}
-use Rattle.sds_first_spec.specs.declared.kept.KeptPeer.{KeptPeer}
-use Rattle.sds_first_spec.specs.declared.kept.WriterLast.{WriterLast}
-use Rattle.sds_first_spec.specs.declared.row.Change.{Change}
+use Rattle.sds_types.specs.declared.ack.Ack.{Ack}
+use Rattle.sds_types.specs.declared.lane.LaneIn.{LaneIn}
+use Rattle.sds_types.specs.declared.batch.OutBatch.{OutBatch}
+use Rattle.sds_types.specs.declared.counts.Counts.{Counts}
+use Rattle.sds_types.specs.declared.peer.KeptPeer.{KeptPeer}
+use Rattle.sds_types.specs.declared.counts.WriterLast.{WriterLast}
+use Rattle.sds_types.specs.declared.row.Change.{Change}
 use Rattle.sds_first_spec.specs.declared.row.LoadRow.{LoadRow}
-use Rattle.sds_first_spec.specs.declared.row.TableRow.{TableRow}
-use Rattle.sds_first_spec.specs.declared.row.TxRow.{TxRow}
+use Rattle.sds_types.specs.declared.row.TableRow.{TableRow}
+use Rattle.sds_types.specs.declared.tx_row.TxRow.{TxRow}
 
 -- what one commit did: a writer's numbered write, a routing run, a batch loaded from a peer, and acks from a peer that changed something
 pub data Act : Type 0 where

@@ -3,27 +3,27 @@
 use Rattle.std.specs.Prelude.{ℕ, ◌+◌, ◌^◌, Bool, ◌&&◌, ◌||◌, ◌==◌, not, nat_lt, nat_le, if◌then◌else◌, List, [], ◌∷◌, length, map, filter, Option, None, Some, Result, Ok, Err}
 use Rattle.std.specs.List.{list_any, flat_map}
 use Rattle.std.specs.Str.{bytes_eq}
-use Rattle.sds_config.specs.declared.config.Config.{Config}
+use Rattle.sds_types.specs.declared.config.Config.{Config}
 use Rattle.sds_value.specs.declared.row.DocRow.{DocRow}
-use Rattle.sds_first_spec.specs.declared.answer.Ack.{Ack}
-use Rattle.sds_first_spec.specs.declared.answer.AckRefusal.{AckRefusal}
-use Rattle.sds_first_spec.specs.declared.answer.AckRefusal.TheVariants as ack_refusal
-use Rattle.sds_first_spec.specs.declared.answer.LoadAnswer.{LoadAnswer}
-use Rattle.sds_first_spec.specs.declared.answer.LoadAnswer.TheVariants as load_answer
-use Rattle.sds_first_spec.specs.declared.answer.NodeFault.{NodeFault}
-use Rattle.sds_first_spec.specs.declared.answer.NodeFault.TheVariants.{Counters}
-use Rattle.sds_first_spec.specs.declared.answer.PeerRefusal.{PeerRefusal}
-use Rattle.sds_first_spec.specs.declared.answer.PeerRefusal.TheVariants as peer_refusal
-use Rattle.sds_first_spec.specs.declared.answer.WriteRefusal.{WriteRefusal}
-use Rattle.sds_first_spec.specs.declared.answer.WriteRefusal.TheVariants as write_refusal
-use Rattle.sds_first_spec.specs.declared.answer.Written.{Written}
-use Rattle.sds_first_spec.specs.declared.answer.Written.TheVariants.{Done, Again}
-use Rattle.sds_first_spec.specs.declared.batch.OutBatch.{OutBatch}
-use Rattle.sds_first_spec.specs.declared.kept.KeptPeer.{KeptPeer}
-use Rattle.sds_first_spec.specs.declared.kept.WriterLast.{WriterLast}
-use Rattle.sds_first_spec.specs.declared.row.Change.{Change}
-use Rattle.sds_first_spec.specs.declared.row.TxRow.{TxRow}
-use Rattle.sds_first_spec.specs.declared.rule.Rule.{Rule}
+use Rattle.sds_types.specs.declared.ack.Ack.{Ack}
+use Rattle.sds_types.specs.declared.ack.AckRefusal.{AckRefusal}
+use Rattle.sds_types.specs.declared.ack.AckRefusal.TheVariants as ack_refusal
+use Rattle.sds_types.specs.declared.load_answer.LoadAnswer.{LoadAnswer}
+use Rattle.sds_types.specs.declared.load_answer.LoadAnswer.TheVariants as load_answer
+use Rattle.sds_types.specs.declared.node_fault.NodeFault.{NodeFault}
+use Rattle.sds_types.specs.declared.node_fault.NodeFault.TheVariants.{Counters}
+use Rattle.sds_types.specs.declared.load_answer.PeerRefusal.{PeerRefusal}
+use Rattle.sds_types.specs.declared.load_answer.PeerRefusal.TheVariants as peer_refusal
+use Rattle.sds_types.specs.declared.write_answer.WriteRefusal.{WriteRefusal}
+use Rattle.sds_types.specs.declared.write_answer.WriteRefusal.TheVariants as write_refusal
+use Rattle.sds_types.specs.declared.write_answer.Written.{Written}
+use Rattle.sds_types.specs.declared.write_answer.Written.TheVariants.{Done, Again}
+use Rattle.sds_types.specs.declared.batch.OutBatch.{OutBatch}
+use Rattle.sds_types.specs.declared.peer.KeptPeer.{KeptPeer}
+use Rattle.sds_types.specs.declared.counts.WriterLast.{WriterLast}
+use Rattle.sds_types.specs.declared.row.Change.{Change}
+use Rattle.sds_types.specs.declared.tx_row.TxRow.{TxRow}
+use Rattle.sds_types.specs.declared.rule.Rule.{Rule}
 use Rattle.sds_first_spec.specs.Acks.{changed_by}
 use Rattle.sds_first_spec.specs.Acts.{Act, State}
 use Rattle.sds_first_spec.specs.Acts.Act.{Wrote, Routed, Loaded, Acked}

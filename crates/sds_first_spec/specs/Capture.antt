@@ -13,13 +13,13 @@ use Rattle.sds_value.specs.declared.row.Field.{Field}
 use Rattle.sds_value.specs.declared.row.Field.TheVariants.{Null, Text}
 use Rattle.sds_value.specs.declared.table.ColumnDef.{ColumnDef}
 use Rattle.sds_value.specs.Values.{value_of}
-use Rattle.sds_config.specs.declared.config.Config.{Config}
+use Rattle.sds_types.specs.declared.config.Config.{Config}
 use Rattle.sds_first_spec.specs.declared.row.Done.{Done}
-use Rattle.sds_first_spec.specs.declared.row.RowStep.{RowStep}
-use Rattle.sds_first_spec.specs.declared.row.RowStep.TheVariants.{Insert}
-use Rattle.sds_first_spec.specs.declared.row.TableRow.{TableRow}
-use Rattle.sds_first_spec.specs.declared.row.TxRow.{TxRow}
-use Rattle.sds_first_spec.specs.declared.rule.Rule.{Rule}
+use Rattle.sds_types.specs.declared.row.RowStep.{RowStep}
+use Rattle.sds_types.specs.declared.row.RowStep.TheVariants.{Insert}
+use Rattle.sds_types.specs.declared.row.TableRow.{TableRow}
+use Rattle.sds_types.specs.declared.tx_row.TxRow.{TxRow}
+use Rattle.sds_types.specs.declared.rule.Rule.{Rule}
 use Rattle.sds_first_spec.specs.Places.{columns_of, table_place}
 use Rattle.sds_first_spec.specs.Tables.{broken, after}
 

@@ -5,15 +5,15 @@ use Rattle.std.specs.Option.{option_map_or}
 use Rattle.std.specs.Str.{bytes_eq}
 use Rattle.sds_value.specs.declared.row.Event.{Event}
 use Rattle.sds_value.specs.declared.row.Event.TheVariants as event
-use Rattle.sds_config.specs.declared.config.Config.{Config}
-use Rattle.sds_config.specs.declared.route.RouterDef.{RouterDef}
-use Rattle.sds_config.specs.declared.route.TriggerDef.{TriggerDef}
-use Rattle.sds_config.specs.declared.route.TriggerRouterDef.{TriggerRouterDef}
-use Rattle.sds_first_spec.specs.declared.row.Change.{Change}
+use Rattle.sds_types.specs.declared.config.Config.{Config}
+use Rattle.sds_types.specs.declared.router.RouterDef.{RouterDef}
+use Rattle.sds_types.specs.declared.trigger.TriggerDef.{TriggerDef}
+use Rattle.sds_types.specs.declared.trigger.TriggerRouterDef.{TriggerRouterDef}
+use Rattle.sds_types.specs.declared.row.Change.{Change}
 use Rattle.sds_first_spec.specs.declared.row.Done.{Done}
-use Rattle.sds_first_spec.specs.declared.row.Row.{Row}
-use Rattle.sds_first_spec.specs.declared.row.RowStep.{RowStep}
-use Rattle.sds_first_spec.specs.declared.row.RowStep.TheVariants.{Insert, Update, Delete}
+use Rattle.sds_types.specs.declared.row.Row.{Row}
+use Rattle.sds_types.specs.declared.row.RowStep.{RowStep}
+use Rattle.sds_types.specs.declared.row.RowStep.TheVariants.{Insert, Update, Delete}
 use Rattle.sds_first_spec.specs.Places.{group_name}
 
 -- what really happened: an insert that became an update is an update

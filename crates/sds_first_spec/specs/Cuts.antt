@@ -1,6 +1,6 @@
 -- Where a lane's changes are cut into batches. The default algorithm is built.
 use Rattle.std.specs.Prelude.{◌≡◌, ◌≢◌, ℕ, ◌<◌, ◌≤◌, ◌==◌, nat_le, if◌then◌else◌, List, [], ◌∷◌, ◌++◌, length}
-use Rattle.sds_first_spec.specs.declared.row.Change.{Change}
+use Rattle.sds_types.specs.declared.row.Change.{Change}
 
 -- a change before the first of these runs, where that run is of its transaction, else a run of its own
 abbrev pub onto_run : Change → List (List Change) → List (List Change)

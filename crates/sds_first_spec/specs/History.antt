@@ -1,13 +1,13 @@
 -- What a node's history leaves, each part said by itself.
 -- A history is what the node began with, and a list of acts, the newest first.
 use Rattle.std.specs.Prelude.{ℕ, ◌+◌, false, nat_lt, List, [], ◌∷◌, ◌++◌, length, filter, None, Some}
-use Rattle.sds_config.specs.declared.config.Config.{Config}
-use Rattle.sds_first_spec.specs.declared.batch.LaneIn.{LaneIn}
-use Rattle.sds_first_spec.specs.declared.batch.OutBatch.{OutBatch}
-use Rattle.sds_first_spec.specs.declared.kept.Counts.{Counts}
-use Rattle.sds_first_spec.specs.declared.kept.WriterLast.{WriterLast}
-use Rattle.sds_first_spec.specs.declared.row.Change.{Change}
-use Rattle.sds_first_spec.specs.declared.row.TableRow.{TableRow}
+use Rattle.sds_types.specs.declared.config.Config.{Config}
+use Rattle.sds_types.specs.declared.lane.LaneIn.{LaneIn}
+use Rattle.sds_types.specs.declared.batch.OutBatch.{OutBatch}
+use Rattle.sds_types.specs.declared.counts.Counts.{Counts}
+use Rattle.sds_types.specs.declared.counts.WriterLast.{WriterLast}
+use Rattle.sds_types.specs.declared.row.Change.{Change}
+use Rattle.sds_types.specs.declared.row.TableRow.{TableRow}
 use Rattle.sds_first_spec.specs.Acts.{Act, State, History}
 use Rattle.sds_first_spec.specs.Acts.Act.{Wrote, Routed, Loaded, Acked}
 use Rattle.sds_first_spec.specs.Acks.{acknowledged}

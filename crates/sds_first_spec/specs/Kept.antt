@@ -1,8 +1,8 @@
 -- What a node keeps of each writer and of each lane. Each stands where it first came; the order of the kept records comes later.
 use Rattle.std.specs.Prelude.{ℕ, Bool, ◌&&◌, ◌==◌, if◌then◌else◌, List, [], ◌∷◌, Option, None, Some}
 use Rattle.std.specs.Str.{bytes_eq}
-use Rattle.sds_first_spec.specs.declared.batch.LaneIn.{LaneIn}
-use Rattle.sds_first_spec.specs.declared.kept.WriterLast.{WriterLast}
+use Rattle.sds_types.specs.declared.lane.LaneIn.{LaneIn}
+use Rattle.sds_types.specs.declared.counts.WriterLast.{WriterLast}
 
 -- what is kept of a writer
 abbrev pub writer_in : List ℕ → List WriterLast → Option WriterLast

@@ -11,13 +11,13 @@ use Rattle.sds_value.specs.declared.kind.Value.TheVariants.{Null}
 use Rattle.sds_value.specs.declared.table.ColumnDef.{ColumnDef}
 use Rattle.sds_first_spec.specs.Texts.{value_text}
 use Rattle.std.specs.Str.{chars}
-use Rattle.sds_config.specs.declared.config.ChannelDef.{ChannelDef}
-use Rattle.sds_config.specs.declared.config.Config.{Config}
-use Rattle.sds_first_spec.specs.declared.batch.OutBatch.{OutBatch}
-use Rattle.sds_first_spec.specs.declared.batch.Standing.{Standing}
-use Rattle.sds_first_spec.specs.declared.batch.Standing.TheVariants as standing
-use Rattle.sds_first_spec.specs.declared.row.Change.{Change}
-use Rattle.sds_first_spec.specs.declared.row.Row.{Row}
+use Rattle.sds_types.specs.declared.channel.ChannelDef.{ChannelDef}
+use Rattle.sds_types.specs.declared.config.Config.{Config}
+use Rattle.sds_types.specs.declared.batch.OutBatch.{OutBatch}
+use Rattle.sds_types.specs.declared.batch.Standing.{Standing}
+use Rattle.sds_types.specs.declared.batch.Standing.TheVariants as standing
+use Rattle.sds_types.specs.declared.row.Change.{Change}
+use Rattle.sds_types.specs.declared.row.Row.{Row}
 use Rattle.sds_first_spec.specs.Acts.{Act, State}
 use Rattle.sds_first_spec.specs.Acts.Act.{Wrote, Routed, Loaded, Acked}
 use Rattle.sds_first_spec.specs.Batches.{channel_order}

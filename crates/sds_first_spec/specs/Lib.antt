@@ -14,7 +14,6 @@ pub mod One
 pub mod Outcome
 pub mod Places
 pub mod Routing
-pub mod Rules
 pub mod Screen
 pub mod Settled
 pub mod Shown

@@ -6,18 +6,18 @@ use Rattle.sds_value.specs.declared.kind.Kind.TheVariants.{Integer, Varchar}
 use Rattle.sds_value.specs.declared.row.Peer.{Peer}
 use Rattle.sds_value.specs.declared.table.ColumnDef.{ColumnDef}
 use Rattle.sds_value.specs.declared.table.TableDef.{TableDef}
-use Rattle.sds_config.specs.declared.config.Action.TheVariants.{P}
-use Rattle.sds_config.specs.declared.config.Algorithm.TheVariants as algorithm
-use Rattle.sds_config.specs.declared.config.ChannelDef.{ChannelDef}
-use Rattle.sds_config.specs.declared.config.Config.{Config}
-use Rattle.sds_config.specs.declared.config.LinkDef.{LinkDef}
-use Rattle.sds_config.specs.declared.route.RouterDef.{RouterDef}
-use Rattle.sds_config.specs.declared.route.RouterExpression.TheVariants.{Everything}
-use Rattle.sds_config.specs.declared.route.RouterKind.TheVariants as router
-use Rattle.sds_config.specs.declared.route.TriggerDef.{TriggerDef}
-use Rattle.sds_config.specs.declared.route.TriggerRouterDef.{TriggerRouterDef}
-use Rattle.sds_first_spec.specs.declared.kept.Counts.{Counts}
-use Rattle.sds_first_spec.specs.declared.kept.KeptPeer.{KeptPeer}
+use Rattle.sds_types.specs.declared.link.Action.TheVariants.{P}
+use Rattle.sds_types.specs.declared.channel.Algorithm.TheVariants as algorithm
+use Rattle.sds_types.specs.declared.channel.ChannelDef.{ChannelDef}
+use Rattle.sds_types.specs.declared.config.Config.{Config}
+use Rattle.sds_types.specs.declared.link.LinkDef.{LinkDef}
+use Rattle.sds_types.specs.declared.router.RouterDef.{RouterDef}
+use Rattle.sds_types.specs.declared.router.RouterExpression.TheVariants.{Everything}
+use Rattle.sds_types.specs.declared.router.RouterKind.TheVariants as router
+use Rattle.sds_types.specs.declared.trigger.TriggerDef.{TriggerDef}
+use Rattle.sds_types.specs.declared.trigger.TriggerRouterDef.{TriggerRouterDef}
+use Rattle.sds_types.specs.declared.counts.Counts.{Counts}
+use Rattle.sds_types.specs.declared.peer.KeptPeer.{KeptPeer}
 use Rattle.sds_first_spec.specs.Acts.{State}
 
 abbrev pub pair_table : TableDef

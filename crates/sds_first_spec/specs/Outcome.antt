@@ -5,12 +5,12 @@ use Rattle.sds_value.specs.declared.kind.Value.{Value}
 use Rattle.sds_value.specs.declared.kind.Value.TheVariants.{Null}
 use Rattle.sds_value.specs.declared.row.DocRow.{DocRow}
 use Rattle.sds_value.specs.declared.table.ColumnDef.{ColumnDef}
-use Rattle.sds_config.specs.declared.config.Config.{Config}
+use Rattle.sds_types.specs.declared.config.Config.{Config}
 use Rattle.sds_first_spec.specs.declared.row.Done.{Done}
 use Rattle.sds_first_spec.specs.declared.row.LoadRow.{LoadRow}
-use Rattle.sds_first_spec.specs.declared.row.Row.{Row}
-use Rattle.sds_first_spec.specs.declared.row.RowStep.TheVariants.{Insert, Update}
-use Rattle.sds_first_spec.specs.declared.row.TableRow.{TableRow}
+use Rattle.sds_types.specs.declared.row.Row.{Row}
+use Rattle.sds_types.specs.declared.row.RowStep.TheVariants.{Insert, Update}
+use Rattle.sds_types.specs.declared.row.TableRow.{TableRow}
 use Rattle.sds_first_spec.specs.Places.{columns_of, key_places, key_names, table_place, column_place}
 use Rattle.sds_first_spec.specs.Tables.{value_at, row_at, after}
 use Rattle.sds_first_spec.specs.Capture.{is_insert, are_allowed, row_values}

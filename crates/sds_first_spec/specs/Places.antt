@@ -5,7 +5,7 @@ use Rattle.std.specs.Option.{option_map_or}
 use Rattle.std.specs.Str.{bytes_eq}
 use Rattle.sds_value.specs.declared.table.ColumnDef.{ColumnDef}
 use Rattle.sds_value.specs.declared.table.TableDef.{TableDef}
-use Rattle.sds_config.specs.declared.config.Config.{Config}
+use Rattle.sds_types.specs.declared.config.Config.{Config}
 
 -- the name of the group at a place
 abbrev pub group_name : Config → ℕ → List ℕ

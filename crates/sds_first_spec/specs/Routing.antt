@@ -4,14 +4,14 @@ use Rattle.std.specs.List.{list_any}
 use Rattle.std.specs.Option.{option_map_or}
 use Rattle.std.specs.Str.{bytes_eq}
 use Rattle.sds_value.specs.declared.row.Peer.{Peer}
-use Rattle.sds_config.specs.declared.config.Config.{Config}
-use Rattle.sds_config.specs.declared.route.RouterDef.{RouterDef}
-use Rattle.sds_config.specs.declared.route.RouterKind.{RouterKind}
-use Rattle.sds_config.specs.declared.route.RouterKind.TheVariants.{Default, Column, LookupTable, Subselect}
-use Rattle.sds_config.specs.declared.route.TriggerDef.{TriggerDef}
-use Rattle.sds_config.specs.declared.route.TriggerRouterDef.{TriggerRouterDef}
-use Rattle.sds_first_spec.specs.declared.row.Change.{Change}
-use Rattle.sds_first_spec.specs.declared.row.TableRow.{TableRow}
+use Rattle.sds_types.specs.declared.config.Config.{Config}
+use Rattle.sds_types.specs.declared.router.RouterDef.{RouterDef}
+use Rattle.sds_types.specs.declared.router.RouterKind.{RouterKind}
+use Rattle.sds_types.specs.declared.router.RouterKind.TheVariants.{Default, Column, LookupTable, Subselect}
+use Rattle.sds_types.specs.declared.trigger.TriggerDef.{TriggerDef}
+use Rattle.sds_types.specs.declared.trigger.TriggerRouterDef.{TriggerRouterDef}
+use Rattle.sds_types.specs.declared.row.Change.{Change}
+use Rattle.sds_types.specs.declared.row.TableRow.{TableRow}
 use Rattle.sds_first_spec.specs.Places.{group_name}
 
 -- whether a router's own test names a peer for a change, on these tables

@@ -4,21 +4,21 @@ use Rattle.std.specs.Fmt.{decimal}
 use Rattle.std.specs.List.{join_with_byte}
 use Rattle.std.specs.Option.{option_map_or}
 use Rattle.std.specs.Str.{encode_utf8_all}
-use Rattle.sds_config.specs.declared.config.Config.{Config}
-use Rattle.sds_first_spec.specs.declared.answer.Ack.{Ack}
-use Rattle.sds_first_spec.specs.declared.answer.AckRefusal.{AckRefusal}
-use Rattle.sds_first_spec.specs.declared.answer.NodeFault.{NodeFault}
-use Rattle.sds_first_spec.specs.declared.answer.WriteRefusal.{WriteRefusal}
-use Rattle.sds_first_spec.specs.declared.answer.WriteRefusal.TheVariants.{Broken, OldNumber, GapNumber, TooManyRows, Fault}
-use Rattle.sds_first_spec.specs.declared.answer.Written.{Written}
-use Rattle.sds_first_spec.specs.declared.answer.Written.TheVariants.{Done, Again}
+use Rattle.sds_types.specs.declared.config.Config.{Config}
+use Rattle.sds_types.specs.declared.ack.Ack.{Ack}
+use Rattle.sds_types.specs.declared.ack.AckRefusal.{AckRefusal}
+use Rattle.sds_types.specs.declared.node_fault.NodeFault.{NodeFault}
+use Rattle.sds_types.specs.declared.write_answer.WriteRefusal.{WriteRefusal}
+use Rattle.sds_types.specs.declared.write_answer.WriteRefusal.TheVariants.{Broken, OldNumber, GapNumber, TooManyRows, Fault}
+use Rattle.sds_types.specs.declared.write_answer.Written.{Written}
+use Rattle.sds_types.specs.declared.write_answer.Written.TheVariants.{Done, Again}
 use Rattle.sds_first_spec.specs.declared.event.WorldEvent.{WorldEvent}
 use Rattle.sds_first_spec.specs.declared.event.WorldEvent.TheVariants.{Node, Open, Register, Write, Route, Push, Show}
 use Rattle.sds_first_spec.specs.Acts.{History}
 use Rattle.sds_first_spec.specs.Calls.{write_answer, route_answer, acks_answer}
 use Rattle.sds_first_spec.specs.Happens.{batches_in, message_from, reply_to, delivered, happens}
 use Rattle.sds_first_spec.specs.History.{state_of}
-use Rattle.sds_first_spec.specs.Rules.{number_of}
+use Rattle.sds_types.specs.Rules.{number_of}
 use Rattle.sds_first_spec.specs.Shown.{tables_text}
 use Rattle.sds_first_spec.specs.World.{Message, World, history_of}
 

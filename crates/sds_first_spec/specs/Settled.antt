@@ -1,8 +1,8 @@
 -- What a scenario's lines ask of a node: the number of a writer's last write, and whether every batch is loaded.
 use Rattle.std.specs.Prelude.{ℕ, Bool, List, Option, None, Some}
 use Rattle.std.specs.List.{list_all}
-use Rattle.sds_first_spec.specs.declared.batch.OutBatch.{OutBatch}
-use Rattle.sds_first_spec.specs.declared.kept.WriterLast.{WriterLast}
+use Rattle.sds_types.specs.declared.batch.OutBatch.{OutBatch}
+use Rattle.sds_types.specs.declared.counts.WriterLast.{WriterLast}
 use Rattle.sds_first_spec.specs.Lanes.{is_ok}
 
 -- the number of the last accepted write, or 0 without one

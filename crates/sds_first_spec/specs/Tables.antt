@@ -6,13 +6,13 @@ use Rattle.std.specs.Ordering.{int_eq}
 use Rattle.std.specs.Str.{bytes_eq}
 use Rattle.sds_value.specs.declared.kind.Value.{Value}
 use Rattle.sds_value.specs.declared.kind.Value.TheVariants.{Null, Integer, Decimal, Text, Stamp, Bin}
-use Rattle.sds_config.specs.declared.config.Config.{Config}
-use Rattle.sds_first_spec.specs.declared.row.Row.{Row}
-use Rattle.sds_first_spec.specs.declared.row.RowStep.{RowStep}
-use Rattle.sds_first_spec.specs.declared.row.RowStep.TheVariants.{Insert, Update, Delete}
-use Rattle.sds_first_spec.specs.declared.row.TableRow.{TableRow}
-use Rattle.sds_first_spec.specs.declared.rule.Rule.{Rule}
-use Rattle.sds_first_spec.specs.declared.rule.Rule.TheVariants.{DuplicateKey}
+use Rattle.sds_types.specs.declared.config.Config.{Config}
+use Rattle.sds_types.specs.declared.row.Row.{Row}
+use Rattle.sds_types.specs.declared.row.RowStep.{RowStep}
+use Rattle.sds_types.specs.declared.row.RowStep.TheVariants.{Insert, Update, Delete}
+use Rattle.sds_types.specs.declared.row.TableRow.{TableRow}
+use Rattle.sds_types.specs.declared.rule.Rule.{Rule}
+use Rattle.sds_types.specs.declared.rule.Rule.TheVariants.{DuplicateKey}
 use Rattle.sds_first_spec.specs.Places.{key_places}
 
 abbrev pub same_value : Value → Value → Bool

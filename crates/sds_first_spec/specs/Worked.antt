@@ -2,23 +2,23 @@
 use Rattle.std.specs.Prelude.{◌≡◌, ℕ, ◌-◌, ◌^◌, true, false, List, [], ◌∷◌, map, Some, Result, Ok, Err, ℤ, pos, neg_ℤ, codes}
 use Rattle.sds_value.specs.declared.kind.Value.{Value}
 use Rattle.sds_value.specs.declared.kind.Value.TheVariants as value
-use Rattle.sds_first_spec.specs.declared.answer.Ack.{Ack}
-use Rattle.sds_first_spec.specs.declared.answer.AckRefusal.TheVariants.{UnknownNode, UnknownBatch}
-use Rattle.sds_first_spec.specs.declared.answer.LoadAnswer.{LoadAnswer}
-use Rattle.sds_first_spec.specs.declared.answer.LoadAnswer.TheVariants as load_answer
-use Rattle.sds_first_spec.specs.declared.answer.NodeFault.TheVariants.{Counters}
-use Rattle.sds_first_spec.specs.declared.answer.WriteRefusal.{WriteRefusal}
-use Rattle.sds_first_spec.specs.declared.answer.PeerRefusal.{PeerRefusal}
-use Rattle.sds_first_spec.specs.declared.answer.WriteRefusal.TheVariants.{Broken, OldNumber, GapNumber, Fault}
-use Rattle.sds_first_spec.specs.declared.answer.Written.{Written}
-use Rattle.sds_first_spec.specs.declared.answer.Written.TheVariants.{Done, Again}
-use Rattle.sds_first_spec.specs.declared.batch.OutBatch.{OutBatch}
-use Rattle.sds_first_spec.specs.declared.batch.Standing.{Standing}
-use Rattle.sds_first_spec.specs.declared.batch.Standing.TheVariants as standing
+use Rattle.sds_types.specs.declared.ack.Ack.{Ack}
+use Rattle.sds_types.specs.declared.ack.AckRefusal.TheVariants.{UnknownNode, UnknownBatch}
+use Rattle.sds_types.specs.declared.load_answer.LoadAnswer.{LoadAnswer}
+use Rattle.sds_types.specs.declared.load_answer.LoadAnswer.TheVariants as load_answer
+use Rattle.sds_types.specs.declared.node_fault.NodeFault.TheVariants.{Counters}
+use Rattle.sds_types.specs.declared.write_answer.WriteRefusal.{WriteRefusal}
+use Rattle.sds_types.specs.declared.load_answer.PeerRefusal.{PeerRefusal}
+use Rattle.sds_types.specs.declared.write_answer.WriteRefusal.TheVariants.{Broken, OldNumber, GapNumber, Fault}
+use Rattle.sds_types.specs.declared.write_answer.Written.{Written}
+use Rattle.sds_types.specs.declared.write_answer.Written.TheVariants.{Done, Again}
+use Rattle.sds_types.specs.declared.batch.OutBatch.{OutBatch}
+use Rattle.sds_types.specs.declared.batch.Standing.{Standing}
+use Rattle.sds_types.specs.declared.batch.Standing.TheVariants as standing
 use Rattle.sds_first_spec.specs.declared.event.WorldEvent.TheVariants.{Register}
-use Rattle.sds_first_spec.specs.declared.row.TableRow.{TableRow}
-use Rattle.sds_first_spec.specs.declared.row.TxRow.{TxRow}
-use Rattle.sds_first_spec.specs.declared.rule.Rule.TheVariants.{DuplicateKey}
+use Rattle.sds_types.specs.declared.row.TableRow.{TableRow}
+use Rattle.sds_types.specs.declared.tx_row.TxRow.{TxRow}
+use Rattle.sds_types.specs.declared.rule.Rule.TheVariants.{DuplicateKey}
 use Rattle.sds_first_spec.specs.Acts.{Act, State}
 use Rattle.sds_first_spec.specs.Acts.Act.{Wrote, Routed, Loaded, Acked}
 use Rattle.sds_first_spec.specs.Calls.{write_answer, write_acts, route_answer, route_acts, load_answer_of, acks_answer, acks_acts, offer_answer}

@@ -1,5 +1,5 @@
-use crate::TxRow;
 use sds_base::{List, Txt};
+use sds_types::TxRow;
 use sds_value::Peer;
 
 /// What a line of a scenario makes happen. Nodes go by their ids.

@@ -1,7 +1,7 @@
 -- The words of a reply's acks, joined.
 use Rattle.std.proofs.Common.{◌≡◌, ℕ, ◌-◌, ◌≤◌, List, [], ◌∷◌, ◌++◌, suc, take, drop, length, get_or, sym, ap, ◌∙◌, append-nil, arith}
 use Rattle.std.proofs.lemmas.List.{take_all}
-use Rattle.sds_first_spec.specs.declared.answer.Ack.{Ack}
+use Rattle.sds_types.specs.declared.ack.Ack.{Ack}
 use Rattle.sds_first_spec.specs.Screen.{ack_word, acks_words}
 use Rattle.sds_first_world.specs.Acking.{others_words}
 

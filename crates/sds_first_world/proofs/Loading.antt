@@ -2,7 +2,7 @@
 use Rattle.std.proofs.Common.{◌≡◌, ℕ, ◌+◌, ◌<◌, ◌≤◌, None, refl, Bool, true, false, append-nil, List, [], ◌∷◌, ◌++◌, All, drop, length, get_or, sym, ap, subst, ◌∙◌, append_assoc}
 use Rattle.std.proofs.lemmas.List.{drop_more, drop_all}
 use Rattle.sds_value.specs.declared.row.DocRow.{DocRow}
-use Rattle.sds_first_spec.specs.declared.answer.Ack.{Ack}
+use Rattle.sds_types.specs.declared.ack.Ack.{Ack}
 use Rattle.sds_first_spec.specs.declared.batch.Sent.{Sent}
 use Rattle.sds_first_spec.specs.Acts.{History}
 use Rattle.sds_first_spec.specs.One.{one}

@@ -5,8 +5,8 @@ use Rattle.std.specs.List.{flat_map}
 use Rattle.std.specs.Str.{bytes_eq}
 use Rattle.std.proofs.lemmas.Bool.Decides.{nat_tests}
 use Rattle.sds_value.specs.declared.row.Peer.{Peer}
-use Rattle.sds_first_spec.specs.declared.answer.Ack.{Ack}
-use Rattle.sds_first_spec.specs.declared.batch.OutBatch.{OutBatch}
+use Rattle.sds_types.specs.declared.ack.Ack.{Ack}
+use Rattle.sds_types.specs.declared.batch.OutBatch.{OutBatch}
 use Rattle.sds_first_spec.specs.declared.batch.Sent.{Sent}
 use Rattle.sds_first_spec.specs.declared.event.WorldEvent.TheVariants as event
 use Rattle.sds_first_spec.specs.Acts.{Act, State, History}

@@ -4,10 +4,10 @@ use Rattle.std.specs.Prelude.{IfSome, is_some, is_none}
 use Rattle.std.specs.Option.{option_map}
 use Rattle.std.proofs.lemmas.Bool.{eqb-true}
 use Rattle.std.proofs.lemmas.List.Elements.{All-nil, All-cons, All-append}
-use Rattle.sds_config.specs.declared.config.Config.{Config}
+use Rattle.sds_types.specs.declared.config.Config.{Config}
 use Rattle.sds_first_spec.specs.declared.event.WorldEvent.{WorldEvent}
 use Rattle.sds_first_spec.specs.declared.event.WorldEvent.TheVariants as event
-use Rattle.sds_first_spec.specs.declared.row.TxRow.{TxRow}
+use Rattle.sds_types.specs.declared.tx_row.TxRow.{TxRow}
 use Rattle.sds_first_spec.specs.Happens.{happens, world_after, pushed_by, batches_in, message_from, sent}
 use Rattle.sds_first_spec.specs.One.{one}
 use Rattle.sds_first_spec.specs.World.{Message, World, empty_world}

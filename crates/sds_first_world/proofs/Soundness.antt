@@ -15,7 +15,7 @@ use Rattle.sds_value.specs.declared.row.Field.{Field}
 use Rattle.sds_value.specs.declared.row.Field.TheVariants.{Null, Text}
 use Rattle.sds_value.specs.Names.{is_name_text}
 use Rattle.sds_value.specs.Values.{value_of, digits_value}
-use Rattle.sds_first_spec.specs.declared.row.TxRow.{TxRow}
+use Rattle.sds_types.specs.declared.tx_row.TxRow.{TxRow}
 use Rattle.sds_first_spec.specs.Capture.{is_own_insert}
 use Rattle.sds_first_spec.specs.One.{one}
 use Rattle.sds_first_world.specs.declared.line.Line.{Line}

@@ -2,14 +2,14 @@
 use Rattle.std.proofs.Common.{◌≡◌, ℕ, ◌+◌, ◌^◌, ◌<◌, true, List, [], ◌∷◌, ◌++◌, length, map, All, Option, Some, Result, Ok, sym, ap, subst, ◌∙◌, arith}
 use Rattle.std.specs.Option.{option_map_or}
 use Rattle.sds_value.specs.declared.row.DocRow.{DocRow}
-use Rattle.sds_first_spec.specs.declared.answer.Ack.{Ack}
-use Rattle.sds_first_spec.specs.declared.answer.AckRefusal.{AckRefusal}
-use Rattle.sds_first_spec.specs.declared.answer.NodeFault.{NodeFault}
-use Rattle.sds_first_spec.specs.declared.answer.WriteRefusal.{WriteRefusal}
-use Rattle.sds_first_spec.specs.declared.answer.Written.{Written}
+use Rattle.sds_types.specs.declared.ack.Ack.{Ack}
+use Rattle.sds_types.specs.declared.ack.AckRefusal.{AckRefusal}
+use Rattle.sds_types.specs.declared.node_fault.NodeFault.{NodeFault}
+use Rattle.sds_types.specs.declared.write_answer.WriteRefusal.{WriteRefusal}
+use Rattle.sds_types.specs.declared.write_answer.Written.{Written}
 use Rattle.sds_first_spec.specs.declared.batch.Sent.{Sent}
 use Rattle.sds_first_spec.specs.declared.event.WorldEvent.TheVariants as event
-use Rattle.sds_first_spec.specs.declared.row.TxRow.{TxRow}
+use Rattle.sds_types.specs.declared.tx_row.TxRow.{TxRow}
 use Rattle.sds_first_spec.specs.Acts.{Act, History}
 use Rattle.sds_first_spec.specs.Calls.{write_answer, write_acts, route_answer, route_acts, acks_answer, acks_acts, offer_answer}
 use Rattle.sds_first_spec.specs.Happens.{acts_at, write_at, route_at, acks_at, happens, with_history_acts, answered, delivered, reply_to, sent, message_from, acts_of}

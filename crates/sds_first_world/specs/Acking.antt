@@ -1,6 +1,6 @@
 -- The words of a reply's acks in one pass.
 use Rattle.std.specs.Prelude.{ℕ, List, [], ◌∷◌, ◌++◌, codes}
-use Rattle.sds_first_spec.specs.declared.answer.Ack.{Ack}
+use Rattle.sds_types.specs.declared.ack.Ack.{Ack}
 use Rattle.sds_first_spec.specs.Screen.{ack_word}
 
 -- the words of acks that stand behind another

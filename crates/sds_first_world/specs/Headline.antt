@@ -3,8 +3,8 @@
 use Rattle.std.specs.Prelude.{◌≡◌, ℕ, true, ◌&&◌, ◌==◌, if◌then◌else◌, List, [], ◌∷◌, ◌++◌, map, take, All}
 use Rattle.std.specs.Str.{bytes_eq}
 use Rattle.sds_first_spec.specs.declared.row.LoadRow.{LoadRow}
-use Rattle.sds_first_spec.specs.declared.row.TableRow.{TableRow}
-use Rattle.sds_first_spec.specs.declared.row.TxRow.{TxRow}
+use Rattle.sds_types.specs.declared.row.TableRow.{TableRow}
+use Rattle.sds_types.specs.declared.tx_row.TxRow.{TxRow}
 use Rattle.sds_first_spec.specs.Acts.{Act, History}
 use Rattle.sds_first_spec.specs.Acts.Act.{Wrote, Routed, Loaded, Acked}
 use Rattle.sds_first_spec.specs.Capture.{steps_of, after_all}

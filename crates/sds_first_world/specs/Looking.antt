@@ -3,7 +3,7 @@ use Rattle.std.specs.Prelude.{ℕ, ◌+◌, Bool, true, false, ◌&&◌, ◌==�
 use Rattle.std.specs.Option.{option_map}
 use Rattle.sds_value.specs.declared.row.Peer.{Peer}
 use Rattle.sds_first_spec.specs.declared.event.WorldEvent.{WorldEvent}
-use Rattle.sds_first_spec.specs.declared.row.TxRow.{TxRow}
+use Rattle.sds_types.specs.declared.tx_row.TxRow.{TxRow}
 use Rattle.sds_first_spec.specs.declared.event.WorldEvent.TheVariants as event
 use Rattle.sds_first_world.specs.declared.line.Line.{Line}
 use Rattle.sds_first_world.specs.declared.line.Line.TheVariants.{Opening, Write, Row, End, Route, Push, Show, Other}

@@ -1,7 +1,7 @@
 -- What holds of the place and the world behind lines that may stand, and of the stage that has played them.
 use Rattle.std.specs.Prelude.{◌≡◌, ℕ, ◌≤◌, ◌<◌, true, List, [], ◌∷◌, length, All, IfSome}
 use Rattle.std.specs.Option.{option_map_or}
-use Rattle.sds_first_spec.specs.declared.row.TxRow.{TxRow}
+use Rattle.sds_types.specs.declared.tx_row.TxRow.{TxRow}
 use Rattle.sds_first_spec.specs.One.{one}
 use Rattle.sds_first_spec.specs.Screen.{printed_by}
 use Rattle.sds_first_spec.specs.World.{World, empty_world}

@@ -3,11 +3,11 @@ ghost use Rattle.sds_first_spec.specs.One.{one, pair_table, data_channel, pair_t
 
 use crate::words::word;
 use sds_base::{List, NoMemory};
-use sds_config::{
-    Action, Algorithm, ChannelDef, ColumnDef, Config, LinkDef, RouterDef, RouterExpression,
-    RouterKind, TableDef, TriggerDef, TriggerRouterDef,
+use sds_types::{
+    Action, Algorithm, ChannelDef, Config, LinkDef, RouterDef, RouterExpression, RouterKind,
+    TriggerDef, TriggerRouterDef,
 };
-use sds_value::Kind;
+use sds_value::{ColumnDef, Kind, TableDef};
 use std::alloc::Global;
 
 /// The one configuration that a rehearsal has until the configuration file is read.

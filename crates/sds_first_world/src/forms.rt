@@ -11,7 +11,7 @@ ghost use Rattle.sds_first_world.specs.Words.{is_plain, is_word, are, texts, Are
 use crate::words::word;
 use crate::{Line, Opening};
 use sds_base::{List, NoMemory, Twin, Txt};
-use sds_first_spec::TxRow;
+use sds_types::TxRow;
 use sds_value::{Binary, Event, Field, Kind, Value, ValueRefusal, is_name};
 use std::alloc::Global;
 

@@ -14,8 +14,8 @@ ghost use Rattle.sds_first_world.specs.Sound.{IsSoundEvent, IsSoundLine, IsSound
 use crate::stage::Stage;
 use crate::{BadLine, Line, Place, fits, read_fields, take_line};
 use sds_base::NoMemory;
-use sds_line::{Line as TextLine, LineRefusal, Lines};
 use sds_first_spec::WorldEvent;
+use sds_line::{Line as TextLine, LineRefusal, Lines};
 use std::alloc::Global;
 
 /// How many bytes are fed at a time.

@@ -1,5 +1,5 @@
 use sds_base::Txt;
-use sds_first_spec::TxRow;
+use sds_types::TxRow;
 
 /// The four lines with which a scenario begins, in this order.
 #[derive(Clone, Copy, Debug, PartialEq, Eq)]

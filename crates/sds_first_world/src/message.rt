@@ -11,7 +11,8 @@ ghost use Rattle.sds_first_node.specs.Meaning.{StandsFor, kept_of};
 
 use sds_base::{NoMemory, Txt};
 use sds_first_node::Node;
-use sds_first_spec::{Ack, LoadAnswer, NodeFault, PeerRefusal, Sent};
+use sds_first_spec::Sent;
+use sds_types::{Ack, LoadAnswer, NodeFault, PeerRefusal};
 use std::alloc::Global;
 
 /// The batches that a node's next message to another takes, with their rows.

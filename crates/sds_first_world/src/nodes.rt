@@ -18,7 +18,8 @@ ghost use Rattle.sds_first_world.specs.Playing.{NodesPlay, is_called, HistoryAt,
 use crate::message::{deliver, message_to};
 use sds_base::{NoMemory, Txt};
 use sds_first_node::Node;
-use sds_first_spec::{Ack, AckRefusal, NodeFault, Sent, TxRow, WriteRefusal, Written};
+use sds_first_spec::Sent;
+use sds_types::{Ack, AckRefusal, NodeFault, TxRow, WriteRefusal, Written};
 use sds_value::Peer;
 use std::alloc::Global;
 

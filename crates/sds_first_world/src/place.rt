@@ -5,7 +5,8 @@ ghost use Rattle.sds_first_world.specs.Words.{is_plain};
 use crate::words::word;
 use crate::{Line, Opening};
 use sds_base::{List, NoMemory, Txt};
-use sds_first_spec::{TxRow, WorldEvent};
+use sds_first_spec::WorldEvent;
+use sds_types::TxRow;
 use sds_value::Peer;
 use std::alloc::Global;
 

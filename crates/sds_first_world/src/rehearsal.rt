@@ -11,8 +11,8 @@ ghost use Rattle.sds_first_world.specs.Played.{most_bytes, is_long, through_last
 use crate::fixed::one;
 use crate::game::{Played, play_text};
 use sds_base::{Bytes, NoMemory, Same};
-use sds_config::Config;
 use sds_outside::{MemKeeper, ReadStop, Sink, Source, read_all, write_all};
+use sds_types::Config;
 use std::alloc::Global;
 
 /// How many bytes a scenario may have: 1 GiB.

@@ -26,7 +26,8 @@ use crate::text::{
 };
 use sds_base::{List, NoMemory, Twin, Txt};
 use sds_first_node::Node;
-use sds_first_spec::{Ack, Sent, TxRow, WorldEvent};
+use sds_first_spec::{Sent, WorldEvent};
+use sds_types::{Ack, TxRow};
 use sds_value::Peer;
 use std::alloc::Global;
 

@@ -1,8 +1,9 @@
 // Tests of what lines say, of where they may stand and of what they make happen.
 use crate::{Draft, Line, Place, fits, read_fields, take_line};
 use sds_base::{List, NoMemory, Txt};
+use sds_first_spec::WorldEvent;
 use sds_line::{LineRefusal, read_line};
-use sds_first_spec::{TxRow, WorldEvent};
+use sds_types::TxRow;
 use sds_value::{Event, Field};
 use std::alloc::Global;
 use std::test::Fail;

@@ -4,7 +4,7 @@ ghost use Rattle.sds_first_world.specs.Acking.{others_words};
 ghost use Rattle.sds_first_spec.specs.Screen.{write_words, write_line, route_line, count_words, send_line, answer_line, changed_words, ack_word, acks_words, deliver_line, utf8};
 
 use sds_base::{NoMemory, Txt};
-use sds_first_spec::{Ack, AckRefusal, NodeFault, WriteRefusal, Written};
+use sds_types::{Ack, AckRefusal, NodeFault, WriteRefusal, Written};
 use std::alloc::Global;
 
 /// The words of a write's answer.

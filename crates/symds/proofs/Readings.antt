@@ -1,13 +1,14 @@
 -- What a source gives of a configuration file.
 use Rattle.std.proofs.Common.{◌≡◌, inl, inr, ℕ, ◌+◌, ◌<◌, ◌^◌, Bool, true, false, List, [], ◌++◌, length, Option, None, Some, sym, ap, subst, ◌∙◌, refl, arith, append-nil, length-append}
 use Rattle.std.specs.Prelude.{IfSome}
-use Rattle.sds_config.specs.declared.config.Config.{Config}
-use Rattle.sds_config.specs.declared.refusal.ConfigRefusal.{ConfigRefusal}
+use Rattle.sds_types.specs.declared.config.Config.{Config}
+use Rattle.sds_types.specs.declared.config_refusal.ConfigRefusal.{ConfigRefusal}
 use Rattle.sds_config.specs.Configuration.{IsConfiguration, IsFirstRefusal}
 use Rattle.sds_config.proofs.OneReading.{far}
 use Rattle.sds_outside.specs.Told.{before_told, IsAtEnd}
-use Rattle.symds.specs.declared.status.Status.{Status}
-use Rattle.symds.specs.Configured.{status_of_refusal}
+use Rattle.sds_types.specs.declared.status.Status.{Status}
+use Rattle.sds_types.specs.declared.status.Status.TheVariants as status
+use Rattle.symds.specs.Configured.{SaysRefusal}
 
 whole_by : (bytes file rest : List ℕ) → file ≡ bytes ++ rest → rest ≡ [] → bytes ≡ file
 whole_by bytes file rest is none = sym (is ∙ (ap (λ (l : List ℕ). bytes ++ l) none ∙ append-nil bytes))
@@ -41,7 +42,7 @@ refusal_read bytes (Some file) (Some rest) true refusal told end over is = let w
 refusal_read bytes (Some file) (Some rest) false refusal told end over is =
     let whole : file ≡ bytes ++ rest = cc in subst (λ (l : List ℕ). IsFirstRefusal l refusal) (whole_by bytes file rest whole (end refl)) is
 
-pub refused_read : (f : Option (List ℕ)) (why : ConfigRefusal) (answer : Status) → IfSome f (λ (file : List ℕ). IsFirstRefusal file why) → answer ≡ status_of_refusal why
-    → IfSome f (λ (file : List ℕ). (refusal : ConfigRefusal) × (IsFirstRefusal file refusal × (answer ≡ status_of_refusal refusal)))
+pub refused_read : (f : Option (List ℕ)) (why : ConfigRefusal) (answer : Status) → IfSome f (λ (file : List ℕ). IsFirstRefusal file why) → answer ≡ status.Config why
+    → IfSome f (λ (file : List ℕ). SaysRefusal file answer)
 refused_read None why answer is same = tt
 refused_read (Some file) why answer is same = (why, (is, same))

@@ -1,8 +1,8 @@
 -- What the program says and writes of a rehearsal is what the texts of its configuration and of its scenario have.
 use Rattle.std.proofs.Common.{◌≡◌, ◌≢◌, inl, inr, ℕ, Bool, true, false, List, Option, None, Some, Result, Err, refl, sym, ap, ◌∙◌}
 use Rattle.std.specs.Prelude.{IfSome}
-use Rattle.sds_config.specs.declared.config.Config.{Config}
-use Rattle.sds_config.specs.declared.refusal.ConfigRefusal.{ConfigRefusal}
+use Rattle.sds_types.specs.declared.config.Config.{Config}
+use Rattle.sds_types.specs.declared.config_refusal.ConfigRefusal.{ConfigRefusal}
 use Rattle.sds_config.specs.Configuration.{IsConfiguration, IsFirstRefusal}
 use Rattle.sds_config.proofs.OneReading.{one_configuration, not_both, one_refusal}
 use Rattle.sds_outside.specs.Told.{after_told}
@@ -12,9 +12,9 @@ use Rattle.sds_first_world.specs.declared.rehearsal.WorldRefusal.{WorldRefusal}
 use Rattle.sds_first_world.specs.declared.rehearsal.WorldRefusal.TheVariants as refusal
 use Rattle.sds_first_world.specs.Played.{refusal_of, screen, ending, Shows}
 use Rattle.sds_first_world.proofs.Answering.{unshown}
-use Rattle.symds.specs.declared.status.Status.{Status}
-use Rattle.symds.specs.declared.status.Status.TheVariants as status
-use Rattle.symds.specs.Configured.{TellsOf, status_of_refusal, unread}
+use Rattle.sds_types.specs.declared.status.Status.{Status}
+use Rattle.sds_types.specs.declared.status.Status.TheVariants as status
+use Rattle.symds.specs.Configured.{TellsOf, IsUnread, SaysRefusal}
 use Rattle.symds.specs.Rehearsed.{status_by, status_of, Tells}
 
 -- A REHEARSAL
@@ -39,14 +39,10 @@ told_so is_built None result answer old new is shows = tt
 told_so is_built (Some text) result answer old new is shows = tells is_built text result answer old new is shows
 
 -- where nothing was read or memory was wanting, nothing is written
-unread_so : (is_built : Bool) (text : List ℕ) (answer : Status) (told : Option (List ℕ)) → unread answer → ((number : ℕ) (path : List ℕ) → answer ≡ status.Config number path → ⊥) → Tells is_built text answer told told
-unread_so is_built text status.Done told is other = absurd is
-unread_so is_built text (status.Words place) told is other = absurd is
-unread_so is_built text (status.Config number path) told is other = absurd (other number path refl)
-unread_so is_built text status.ReadFault told is other = tells is_built text (Err refusal.ReadFault) status.ReadFault told told refl (unshown is_built (Some text) told (Err refusal.ReadFault) (inl refl))
-unread_so is_built text status.WriteFault told is other = absurd is
-unread_so is_built text status.NoMemory told is other = tells is_built text (Err refusal.NoMemory) status.NoMemory told told refl (unshown is_built (Some text) told (Err refusal.NoMemory) (inr refl))
-unread_so is_built text (status.BadInput line cause) told is other = absurd is
+unread_so : (is_built : Bool) (text : List ℕ) (answer : Status) (told : Option (List ℕ)) → IsUnread answer → ((why : ConfigRefusal) → answer ≡ status.Config why → ⊥) → Tells is_built text answer told told
+unread_so is_built text answer told (inl is) other = tells is_built text (Err refusal.ReadFault) answer told told is (unshown is_built (Some text) told (Err refusal.ReadFault) (inl refl))
+unread_so is_built text answer told (inr (inl is)) other = tells is_built text (Err refusal.NoMemory) answer told told is (unshown is_built (Some text) told (Err refusal.NoMemory) (inr refl))
+unread_so is_built text answer told (inr (inr (why, is))) other = absurd (other why is)
 
 -- BY A CONFIGURATION that was read
 abbrev TellsTo : Bool → Option (List ℕ) → Status → Option (List ℕ) → Option (List ℕ) → Type 0
@@ -67,31 +63,28 @@ read_so (Some file) None config answer old new is first other = tt
 read_so (Some file) (Some text) config answer old new is first other = read_of file text config answer old new is first other
 
 -- OR BY ONE that is refused
-abbrev RefusedBy : List ℕ → Status → Type 0
-RefusedBy file answer = (refusal : ConfigRefusal) × (IsFirstRefusal file refusal × (answer ≡ status_of_refusal refusal))
+read_fault_no : (why : ConfigRefusal) → status.Config why ≡ status.ReadFault → ⊥
+read_fault_no why is = cc
 
-read_fault_no : (number : ℕ) (path : List ℕ) → status.Config number path ≡ status.ReadFault → ⊥
-read_fault_no number path is = cc
+no_memory_no : (why : ConfigRefusal) → status.Config why ≡ status.NoMemory → ⊥
+no_memory_no why is = cc
 
-no_memory_no : (number : ℕ) (path : List ℕ) → status.Config number path ≡ status.NoMemory → ⊥
-no_memory_no number path is = cc
-
-refused_of : (file text : List ℕ) (answer : Status) (told : Option (List ℕ)) → unread answer → (answer ≢ status.ReadFault → answer ≢ status.NoMemory → RefusedBy file answer) → TellsOf file text answer told told
+refused_of : (file text : List ℕ) (answer : Status) (told : Option (List ℕ)) → IsUnread answer → (answer ≢ status.ReadFault → answer ≢ status.NoMemory → SaysRefusal file answer) → TellsOf file text answer told told
 refused_of file text answer told is by =
-    let never : (config : Config) → IsConfiguration file config → (number : ℕ) (path : List ℕ) → answer ≡ status.Config number path → ⊥ =
-    λ config known number path same.
-    let refused : RefusedBy file answer = by (λ e. read_fault_no number path (sym same ∙ e)) (λ e. no_memory_no number path (sym same ∙ e)) in
+    let never : (config : Config) → IsConfiguration file config → (why : ConfigRefusal) → answer ≡ status.Config why → ⊥ =
+    λ config known why same.
+    let refused : SaysRefusal file answer = by (λ e. read_fault_no why (sym same ∙ e)) (λ e. no_memory_no why (sym same ∙ e)) in
     not_both file config refused.0 known refused.1.0 in
     record {
       built = λ ours. unread_so true text answer told is (never one ours);
       unbuilt = λ config known other. unread_so false text answer told is (never config known);
       refused = λ why known. (
-        λ read memory. let refused : RefusedBy file answer = by read memory in refused.1.1 ∙ ap status_of_refusal (one_refusal file refused.0 why refused.1.0 known),
+        λ read memory. let refused : SaysRefusal file answer = by read memory in refused.1.1 ∙ ap status.Config (one_refusal file refused.0 why refused.1.0 known),
         refl,
       );
     }
 
-pub refused_so : (f o : Option (List ℕ)) (answer : Status) (told : Option (List ℕ)) → unread answer → (answer ≢ status.ReadFault → answer ≢ status.NoMemory → IfSome f (λ (file : List ℕ). RefusedBy file answer))
+pub refused_so : (f o : Option (List ℕ)) (answer : Status) (told : Option (List ℕ)) → IsUnread answer → (answer ≢ status.ReadFault → answer ≢ status.NoMemory → IfSome f (λ (file : List ℕ). SaysRefusal file answer))
     → IfSome f (λ (file : List ℕ). IfSome o (λ (text : List ℕ). TellsOf file text answer told told))
 refused_so None o answer told is by = tt
 refused_so (Some file) None answer told is by = tt

@@ -1,4 +1,3 @@
 pub mod Configured
 pub mod Rehearsed
-pub mod Statuses
 pub mod Words

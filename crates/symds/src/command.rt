@@ -1,27 +1,23 @@
 ghost use Rattle.std.specs.Prelude.{◌≡◌, ◌≢◌, ◌⊎◌, ℕ, Bool, List, [], unwrap_or, true, false, codes, IfOk, IfErr, IfSome, take};
 ghost use Rattle.std.specs.Str.{bytes_eq};
 ghost use Rattle.sds_config.specs.Configuration.{IsConfiguration, IsFirstRefusal};
-ghost use Rattle.sds_config.specs.Refusals.{path_of};
 ghost use Rattle.sds_outside.specs.Causes.{Rose};
 ghost use Rattle.sds_outside.specs.Told.{IsAtEnd};
 ghost use Rattle.sds_first_spec.specs.Happens.{world_after};
 ghost use Rattle.sds_first_spec.specs.InStep.{InStep};
 ghost use Rattle.sds_first_spec.specs.One.{one};
 ghost use Rattle.sds_first_spec.specs.World.{empty_world};
-ghost use Rattle.sds_first_world.specs.Played.{IsCause, events_of};
-ghost use Rattle.symds.specs.Configured.{TellsOf, status_of_refusal, unread};
-ghost use Rattle.symds.specs.Rehearsed.{status_by, Tells};
+ghost use Rattle.sds_first_world.specs.Played.{events_of};
+ghost use Rattle.symds.specs.Configured.{IsUnread, SaysRefusal, TellsOf};
+ghost use Rattle.symds.specs.Rehearsed.{IsFirstCause, cause_of, status_by, Tells};
 ghost use Rattle.symds.specs.Words.{is_rehearse};
 
-use crate::status::Status;
-use sds_base::{NoMemory, Twin, Txt};
-use sds_config::{Config, ConfigRefusal};
-use sds_outside::{Keeper, Link, ReadStop, Sink, Source, read_all};
+use sds_base::Txt;
+use sds_config::ReadConfig;
 use sds_first_world::{WorldRefusal, rehearse};
+use sds_outside::{Keeper, Link, ReadStop, Sink, Source, read_all};
+use sds_types::{Config, ConfigRefusal, InputCause, MOST_CONFIG_BYTES, ScenarioCause, Status};
 use std::alloc::Global;
-
-/// How many bytes of a configuration file are read at most: 1 MiB, and some more of a file that is longer, which is refused.
-const MOST_BYTES: usize = 1 << 20;
 
 /// Does what the words say: `rehearse` reads the configuration file, plays the scenario of `input` under it and writes its
 /// screen to `out`. Any other words are refused before anything is read. A configuration that is refused ends the call
@@ -46,11 +42,11 @@ pub fn run<K: Keeper, S: Source, I: Source, W: Sink, L: Link>(
     ensures words { is_rehearse words.now ≡ false → result.0 ≡ Status.Words 0 }
     ensures words_only { (place : ℕ) → result.0 ≡ Status.Words place → (place ≡ 0) × (is_rehearse words.now ≡ false) }
     ensures words_untouched { is_rehearse words.now ≡ false → (config.new ≡ config.old) × (input.new ≡ input.old) × (out.new ≡ out.old) }
-    ensures config_untouched { (number : ℕ) (path : List ℕ) → result.0 ≡ Status.Config number path → (input.new ≡ input.old) × (out.new ≡ out.old) }
+    ensures config_untouched { (refusal : ConfigRefusal) → result.0 ≡ Status.Config refusal → (input.new ≡ input.old) × (out.new ≡ out.old) }
     ensures read { result.0 ≡ Status.ReadFault → Rose (S.faults config.old) (S.faults config.new) ⊎ Rose (I.faults input.old) (I.faults input.new) }
     ensures read_writes { result.0 ≡ Status.ReadFault → W.taken out.new ≡ W.taken out.old }
     ensures write { result.0 ≡ Status.WriteFault → Rose (W.faults out.old) (W.faults out.new) }
-    ensures cause { (line cause : ℕ) → result.0 ≡ Status.BadInput line cause → IsCause cause }
+    ensures cause { (line : ℕ) (cause : InputCause) → result.0 ≡ Status.BadInput line cause → IsFirstCause cause }
 {
     let _ = link;
     if !is_rehearse(words) {
@@ -88,11 +84,11 @@ fn play<S: Source, I: Source, W: Sink>(
     ensures tells { IfSome (S.left config.old) (λ file. IfSome (I.left input.old) (λ text. TellsOf file text result (W.taken out.old) (W.taken out.new))) }
     ensures done { result ≡ Status.Done → IsAtEnd (I.left input.new) }
     ensures words { (place : ℕ) → result ≡ Status.Words place → ⊥ }
-    ensures config_untouched { (number : ℕ) (path : List ℕ) → result ≡ Status.Config number path → (input.new ≡ input.old) × (out.new ≡ out.old) }
+    ensures config_untouched { (refusal : ConfigRefusal) → result ≡ Status.Config refusal → (input.new ≡ input.old) × (out.new ≡ out.old) }
     ensures read { result ≡ Status.ReadFault → Rose (S.faults config.old) (S.faults config.new) ⊎ Rose (I.faults input.old) (I.faults input.new) }
     ensures read_writes { result ≡ Status.ReadFault → W.taken out.new ≡ W.taken out.old }
     ensures write { result ≡ Status.WriteFault → Rose (W.faults out.old) (W.faults out.new) }
-    ensures cause { (line cause : ℕ) → result ≡ Status.BadInput line cause → IsCause cause }
+    ensures cause { (line : ℕ) (cause : InputCause) → result ≡ Status.BadInput line cause → IsFirstCause cause }
 {
     let config = match read_config(alloc, config) {
         Ok(config) => config,
@@ -105,46 +101,30 @@ fn play<S: Source, I: Source, W: Sink>(
 fn read_config<S: Source>(alloc: Global, source: &mut S) -> Result<Config, Status>
     ensures ok { IfOk result (λ config. IfSome (S.left source.old) (λ file. IsConfiguration file config)) }
     ensures refused { IfErr result (λ status. status ≢ Status.ReadFault → status ≢ Status.NoMemory
-        → IfSome (S.left source.old) (λ file. (refusal : ConfigRefusal) × (IsFirstRefusal file refusal × (status ≡ status_of_refusal refusal)))) }
+        → IfSome (S.left source.old) (λ file. SaysRefusal file status)) }
     ensures fault { IfErr result (λ status. status ≡ Status.ReadFault → Rose (S.faults source.old) (S.faults source.new)) }
-    ensures other { IfErr result unread }
+    ensures other { IfErr result IsUnread }
 {
-    let whole = match read_all(alloc, source, MOST_BYTES) {
+    let whole = match read_all(alloc, source, MOST_CONFIG_BYTES) {
         Ok(whole) => whole,
         Err(ReadStop::Fault) => return Err(Status::ReadFault),
         Err(ReadStop::NoMemory) => return Err(Status::NoMemory),
     };
     match Config::read(alloc, whole.bytes.inner()) {
         Ok(config) => Ok(config),
-        Err(refusal) => Err(refused(alloc, &refusal)),
+        Err(refusal) => Err(refused(refusal)),
     }
 }
 
 /// The status of a configuration that is refused.
-fn refused(alloc: Global, refusal: &ConfigRefusal) -> Status
-    ensures said { result ≢ Status.NoMemory → result ≡ status_of_refusal refusal.now }
-    ensures memory { refusal.now ≡ ConfigRefusal.NoMemory → result ≡ Status.NoMemory }
-    ensures other { unread result }
+fn refused(refusal: ConfigRefusal) -> Status
+    ensures said { result ≢ Status.NoMemory → result ≡ Status.Config refusal }
+    ensures memory { refusal ≡ ConfigRefusal.NoMemory → result ≡ Status.NoMemory }
+    ensures other { IsUnread result }
 {
-    if let ConfigRefusal::NoMemory = refusal {
-        return Status::NoMemory;
-    }
-    match path_text(alloc, refusal) {
-        Ok(path) => Status::Config {
-            number: refusal.number(),
-            path,
-        },
-        Err(NoMemory) => Status::NoMemory,
-    }
-}
-
-/// The path of a refusal, and nothing where it has none.
-fn path_text(alloc: Global, refusal: &ConfigRefusal) -> Result<Txt, NoMemory>
-    ensures { IfOk result (λ path. path ≡ unwrap_or (path_of refusal.now) []) }
-{
-    match refusal.path() {
-        Some(path) => path.twin(alloc),
-        None => Ok(Txt::of(String::new(alloc))),
+    match refusal {
+        ConfigRefusal::NoMemory => Status::NoMemory,
+        refusal => Status::Config(refusal),
     }
 }
 
@@ -160,11 +140,11 @@ fn play_under<I: Source, W: Sink>(
     ensures unbuilt { config.now ≢ one → IfSome (I.left input.old) (λ text. Tells false text result (W.taken out.old) (W.taken out.new)) }
     ensures done { result ≡ Status.Done → IsAtEnd (I.left input.new) }
     ensures words { (place : ℕ) → result ≡ Status.Words place → ⊥ }
-    ensures config { (number : ℕ) (path : List ℕ) → result ≡ Status.Config number path → ⊥ }
+    ensures config { (refusal : ConfigRefusal) → result ≡ Status.Config refusal → ⊥ }
     ensures read { result ≡ Status.ReadFault → Rose (I.faults input.old) (I.faults input.new) }
     ensures read_writes { result ≡ Status.ReadFault → W.taken out.new ≡ W.taken out.old }
     ensures write { result ≡ Status.WriteFault → Rose (W.faults out.old) (W.faults out.new) }
-    ensures cause { (line cause : ℕ) → result ≡ Status.BadInput line cause → IsCause cause }
+    ensures cause { (line : ℕ) (cause : InputCause) → result ≡ Status.BadInput line cause → IsFirstCause cause }
 {
     let (ending, _keepers) = rehearse(alloc, config, input, noise, out);
     status_by(ending)
@@ -178,7 +158,22 @@ fn status_by(ending: Result<(), WorldRefusal>) -> Status
         Ok(()) => Status::Done,
         Err(WorldRefusal::ReadFault) => Status::ReadFault,
         Err(WorldRefusal::WriteFault) => Status::WriteFault,
-        Err(WorldRefusal::BadLine { line, cause }) => Status::BadInput { line, cause },
+        Err(WorldRefusal::BadLine { line, cause }) => Status::BadInput {
+            line,
+            cause: InputCause::Scenario(cause_of(cause)),
+        },
         Err(WorldRefusal::NoMemory) => Status::NoMemory,
+    }
+}
+
+/// The cause of a number that the first rehearsal gives.
+fn cause_of(number: u8) -> ScenarioCause
+    ensures { result ≡ cause_of number }
+{
+    match number {
+        1 => ScenarioCause::BadForm,
+        4 => ScenarioCause::Unfinished,
+        5 => ScenarioCause::TooLong,
+        _ => ScenarioCause::NotSupported,
     }
 }

@@ -2,7 +2,6 @@
 #![tactic(auto)]
 
 mod command;
-mod status;
 #[cfg(test)]
 mod tests;
 #[cfg(test)]
@@ -11,7 +10,7 @@ mod tests_config;
 use command::run;
 use sds_base::{List, Txt};
 use sds_outside::{FileSource, MemKeeper, MemLink, StdSink, StdSource};
-use status::{Status, refusal_name};
+use sds_types::{InputCause, ScenarioCause, Status};
 use std::alloc::Global;
 use std::process::ExitCode;
 use std::random::RandomSource;
@@ -77,40 +76,44 @@ fn tell<R: Eprint>(rt: &R, status: &Status) -> io::Result<()> {
         Status::Words { place } => {
             eprintln!(rt; "  word {place}: the one command is `rehearse`, without further words")
         }
-        Status::Config { number, path } => {
-            let refusal = refusal_name(*number);
-            let path = path.as_str();
-            if path.is_empty() {
-                return eprintln!(rt; "  {refusal}: {CONFIGURATION}");
+        Status::Config(refusal) => {
+            let name = refusal.name();
+            match refusal.path() {
+                None => eprintln!(rt; "  {name}: {CONFIGURATION}"),
+                Some(path) => {
+                    let path = path.as_str();
+                    eprintln!(rt; "  {name}: {path}")
+                }
             }
-            eprintln!(rt; "  {refusal}: {path}")
         }
         Status::ReadFault => {
             eprintln!(rt; "  {CONFIGURATION} in this folder, or standard input, could not be read")
         }
         Status::BadInput { line, cause } => {
             let why = why(*cause);
-            eprintln!(rt; "  line {line}: {why}")
+            let number = cause.number();
+            eprintln!(rt; "  line {line}: {why} (cause {number})")
         }
         _ => Ok(()),
     }
 }
 
-/// Why a line may not stand, by the cause's number.
-fn why(cause: u8) -> &'static str {
+/// Why a line may not stand.
+fn why(cause: InputCause) -> &'static str {
     match cause {
-        1 =>
+        InputCause::Scenario(ScenarioCause::BadForm) =>
             "it is no line of fields: a quote or a backslash stands wrong, it is too long, or it is not UTF-8",
-        4 => "the input ends inside a write",
-        5 => "the first byte past 1 GiB",
-        _ => "a line that is not built",
+        InputCause::Scenario(ScenarioCause::Unfinished) => "the input ends inside a write",
+        InputCause::Scenario(ScenarioCause::TooLong) => "the first byte past 1 GiB",
+        InputCause::Scenario(ScenarioCause::NotSupported) => "not supported yet",
+        other => other.name(),
     }
 }
 
 fn main(rt: HostRuntime) -> ExitCode {
     let status = run_here(&rt);
-    if status != Status::Done {
+    if status.number() != 0 {
         let _ = tell(&rt, &status);
     }
-    ExitCode::from(status.code())
+    ExitCode::from(status.number())
 }

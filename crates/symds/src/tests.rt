@@ -1,7 +1,7 @@
 use crate::command::run;
-use crate::status::Status;
 use sds_base::{Bytes, List, NoMemory, Txt};
 use sds_outside::{MemKeeper, MemLink, MemSink, MemSource};
+use sds_types::Status;
 use std::alloc::Global;
 use std::test::Fail;
 
@@ -78,6 +78,24 @@ pub(crate) fn called_with(
     Ok(Outcome { status, written })
 }
 
+/// A status by its name, and what it says.
+pub(crate) fn told(alloc: Global, status: &Status) -> Result<String, NoMemory> {
+    let name = status.name();
+    Ok(match status {
+        Status::Words { place } => format!(in alloc; "{name} {place}")?,
+        Status::BadInput { line, cause } => {
+            let number = cause.number();
+            format!(in alloc; "{name} {line} {number}")?
+        }
+        Status::Config(refusal) => {
+            let number = refusal.number();
+            let path = refusal.path().map_or("", |path| path.as_str());
+            format!(in alloc; "{name} {number} {path}")?
+        }
+        _ => String::from_str(alloc, name)?,
+    })
+}
+
 /// The bytes of two texts, one behind the other.
 fn joined(alloc: Global, front: &str, back: &[u8]) -> Result<Vec<u8>, NoMemory> {
     let mut text = front.as_bytes().to_vec(alloc)?;
@@ -96,7 +114,7 @@ fn the_scenario_of_two_nodes_prints_its_screen(rt: HostRuntime) -> Result<(), Fa
     let alloc = rt.alloc();
     let input = SCENARIO.as_bytes().to_vec(alloc)?;
     let ended = called(alloc, "rehearse", input, List::new(alloc), 1000)?;
-    assert_eq!(rt; ended.status, Status::Done);
+    assert_eq!(rt; told(alloc, &ended.status)?.as_str(), "Done");
     assert_eq!(rt; ended.written.as_slice(), SCREEN.as_bytes());
     Ok(())
 }
@@ -105,7 +123,7 @@ fn the_scenario_of_two_nodes_prints_its_screen(rt: HostRuntime) -> Result<(), Fa
 fn an_empty_scenario_prints_nothing(rt: HostRuntime) -> Result<(), Fail> {
     let alloc = rt.alloc();
     let ended = called(alloc, "rehearse", Vec::new(alloc), List::new(alloc), 0)?;
-    assert_eq!(rt; ended.status, Status::Done);
+    assert_eq!(rt; told(alloc, &ended.status)?.as_str(), "Done");
     assert!(rt; ended.written.is_empty());
     Ok(())
 }
@@ -115,7 +133,7 @@ fn other_words_are_refused(rt: HostRuntime) -> Result<(), Fail> {
     let alloc = rt.alloc();
     for word in ["fly", "", "Rehearse", "rehearse "] {
         let ended = called(alloc, word, Vec::new(alloc), List::new(alloc), 0)?;
-        assert_eq!(rt; ended.status, Status::Words { place: 0 });
+        assert_eq!(rt; told(alloc, &ended.status)?.as_str(), "Words 0");
     }
     Ok(())
 }
@@ -128,12 +146,8 @@ fn a_reading_that_fails_writes_nothing(rt: HostRuntime) -> Result<(), Fail> {
         fails.push(call)?;
         let input = SCENARIO.as_bytes().to_vec(alloc)?;
         let ended = called(alloc, "rehearse", input, fails, 1000)?;
-        let expected = if call < 3 {
-            Status::ReadFault
-        } else {
-            Status::Done
-        };
-        assert_eq!(rt; ended.status, expected);
+        let expected = if call < 3 { "ReadFault" } else { "Done" };
+        assert_eq!(rt; told(alloc, &ended.status)?.as_str(), expected);
         assert_eq!(rt; ended.written.is_empty(), call < 3);
     }
     Ok(())
@@ -147,11 +161,11 @@ fn a_writing_that_fails_leaves_a_front_of_the_screen(rt: HostRuntime) -> Result<
         let input = SCENARIO.as_bytes().to_vec(alloc)?;
         let ended = called(alloc, "rehearse", input, List::new(alloc), room as u64)?;
         let expected = if room < screen.len() {
-            Status::WriteFault
+            "WriteFault"
         } else {
-            Status::Done
+            "Done"
         };
-        assert_eq!(rt; ended.status, expected);
+        assert_eq!(rt; told(alloc, &ended.status)?.as_str(), expected);
         assert_eq!(rt; ended.written.as_slice(), &screen[..room]);
     }
     Ok(())
@@ -188,11 +202,8 @@ const BAD_LINES: &[(&[u8], u64, u8)] = &[
 fn a_line_that_may_not_stand_ends_the_run_at_its_number(rt: HostRuntime) -> Result<(), Fail> {
     let alloc = rt.alloc();
     for (lines, line, cause) in BAD_LINES {
-        let expected = Status::BadInput {
-            line: *line,
-            cause: *cause,
-        };
-        assert_eq!(rt; ended(alloc, lines)?, expected);
+        let expected = format!(in alloc; "BadInput {line} {cause}")?;
+        assert_eq!(rt; told(alloc, &ended(alloc, lines)?)?, expected);
     }
     Ok(())
 }
@@ -201,11 +212,11 @@ fn a_line_that_may_not_stand_ends_the_run_at_its_number(rt: HostRuntime) -> Resu
 fn a_line_has_at_most_one_mebibyte(rt: HostRuntime) -> Result<(), Fail> {
     let alloc = rt.alloc();
     let mut line = vec![in alloc; b'#'; 1 << 20]?;
-    assert_eq!(rt; ended(alloc, &line)?, Status::Done);
+    assert_eq!(rt; told(alloc, &ended(alloc, &line)?)?.as_str(), "Done");
     line.push(b'#')?;
     assert_eq!(rt;
-        ended(alloc, &line)?,
-        Status::BadInput { line: 5, cause: 1 }
+        told(alloc, &ended(alloc, &line)?)?.as_str(),
+        "BadInput 5 1"
     );
     Ok(())
 }
@@ -223,7 +234,7 @@ fn fields_may_be_quoted(rt: HostRuntime) -> Result<(), Fail> {
     let alloc = rt.alloc();
     let input = QUOTED.as_bytes().to_vec(alloc)?;
     let ended = called(alloc, "rehearse", input, List::new(alloc), 1000)?;
-    assert_eq!(rt; ended.status, Status::BadInput { line: 14, cause: 6 });
+    assert_eq!(rt; told(alloc, &ended.status)?.as_str(), "BadInput 14 6");
     assert_eq!(rt; ended.written.as_slice(), QUOTED_SCREEN.as_bytes());
     Ok(())
 }
@@ -233,7 +244,7 @@ fn what_stood_before_a_bad_line_stays_printed(rt: HostRuntime) -> Result<(), Fai
     let alloc = rt.alloc();
     let input = joined(alloc, BEGIN, b"show,s1\nfly\n")?;
     let ended = called(alloc, "rehearse", input, List::new(alloc), 1000)?;
-    assert_eq!(rt; ended.status, Status::BadInput { line: 6, cause: 6 });
+    assert_eq!(rt; told(alloc, &ended.status)?.as_str(), "BadInput 6 6");
     assert_eq!(rt;
         ended.written.as_slice(),
         b"open corp store 001: ok\nregister s1 corp: ok\ntable pair\n".as_slice()
@@ -257,7 +268,7 @@ fn ten_thousand_rows_come_through(rt: HostRuntime) -> Result<(), Fail> {
     let alloc = rt.alloc();
     let input = ten_thousand(alloc)?;
     let ended = called(alloc, "rehearse", input, List::new(alloc), 1 << 20)?;
-    assert_eq!(rt; ended.status, Status::Done);
+    assert_eq!(rt; told(alloc, &ended.status)?.as_str(), "Done");
     assert!(rt;
         ended
             .written

@@ -1,6 +1,5 @@
 // Tests of what the configuration file makes of a call.
-use crate::status::Status;
-use crate::tests::{ONE, Outcome, called_with};
+use crate::tests::{ONE, Outcome, called_with, told};
 use sds_base::{Bytes, List, NoMemory, Txt};
 use sds_outside::MemSource;
 use std::alloc::Global;
@@ -54,11 +53,8 @@ fn a_configuration_that_is_refused_ends_the_call(rt: HostRuntime) -> Result<(), 
         let (front, back) = ONE.split_once(*old).ok_or("no such text")?;
         let file = format!(in alloc; "{front}{new}{back}")?;
         let ended = under(alloc, file.as_str(), "fly\n")?;
-        let expected = Status::Config {
-            number: *number,
-            path: Txt::copied(alloc, path)?,
-        };
-        assert_eq!(rt; ended.status, expected, "{new:?}");
+        let expected = format!(in alloc; "Config {number} {path}")?;
+        assert_eq!(rt; told(alloc, &ended.status)?, expected, "{new:?}");
         assert!(rt; ended.written.is_empty());
     }
     Ok(())
@@ -69,7 +65,7 @@ fn the_words_come_before_the_configuration(rt: HostRuntime) -> Result<(), Fail> 
     let alloc = rt.alloc();
     let config = MemSource::sound(alloc, Bytes::of(Vec::new(alloc)));
     let ended = called_with(alloc, "fly", config, Vec::new(alloc), List::new(alloc), 0)?;
-    assert_eq!(rt; ended.status, Status::Words { place: 0 });
+    assert_eq!(rt; told(alloc, &ended.status)?.as_str(), "Words 0");
     Ok(())
 }
 
@@ -83,12 +79,8 @@ fn a_configuration_that_cannot_be_read_is_a_fault(rt: HostRuntime) -> Result<(),
         let config = MemSource::new(Bytes::of(file), fails);
         let input = Vec::new(alloc);
         let ended = called_with(alloc, "rehearse", config, input, List::new(alloc), 0)?;
-        let expected = if call < 3 {
-            Status::ReadFault
-        } else {
-            Status::Done
-        };
-        assert_eq!(rt; ended.status, expected);
+        let expected = if call < 3 { "ReadFault" } else { "Done" };
+        assert_eq!(rt; told(alloc, &ended.status)?.as_str(), expected);
     }
     Ok(())
 }
@@ -135,7 +127,7 @@ fn a_file_counts_by_what_it_says(rt: HostRuntime) -> Result<(), Fail> {
     let alloc = rt.alloc();
     let scenario = "node,corp,corp,corp\nnode,s1,store,001\nopen,corp,store,001\n";
     let ended = under(alloc, OTHERWISE, scenario)?;
-    assert_eq!(rt; ended.status, Status::Done);
+    assert_eq!(rt; told(alloc, &ended.status)?.as_str(), "Done");
     assert_eq!(rt;
         ended.written.as_slice(),
         b"open corp store 001: ok\n".as_slice()
@@ -160,11 +152,11 @@ fn under_another_configuration_no_line_is_built(rt: HostRuntime) -> Result<(), F
     let file = format!(in alloc; "{front}VARCHAR(41){back}")?;
     for (scenario, bad) in UNBUILT {
         let expected = match *bad {
-            None => Status::Done,
-            Some((line, cause)) => Status::BadInput { line, cause },
+            None => format!(in alloc; "Done")?,
+            Some((line, cause)) => format!(in alloc; "BadInput {line} {cause}")?,
         };
         let ended = under(alloc, file.as_str(), scenario)?;
-        assert_eq!(rt; ended.status, expected, "{scenario:?}");
+        assert_eq!(rt; told(alloc, &ended.status)?, expected, "{scenario:?}");
         assert!(rt; ended.written.is_empty());
     }
     Ok(())

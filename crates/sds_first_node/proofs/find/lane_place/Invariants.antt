@@ -1,6 +1,6 @@
 use Rattle.std.proofs.Common.{◌≡◌, ◌++◌, take, drop}
 use Rattle.std.specs.Str.{chars}
-use Rattle.sds_first_spec.specs.declared.batch.LaneIn.{LaneIn}
+use Rattle.sds_types.specs.declared.lane.LaneIn.{LaneIn}
 use Rattle.sds_first_spec.specs.Kept.{with_lane}
 use Rattle.sds_first_node.proofs.find.lane_place.Given as goal
 

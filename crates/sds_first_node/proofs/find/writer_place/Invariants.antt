@@ -1,6 +1,6 @@
 use Rattle.std.proofs.Common.{◌≡◌, ◌++◌, take, drop}
 use Rattle.std.specs.Str.{chars}
-use Rattle.sds_first_spec.specs.declared.kept.WriterLast.{WriterLast}
+use Rattle.sds_types.specs.declared.counts.WriterLast.{WriterLast}
 use Rattle.sds_first_spec.specs.Kept.{writer_in, with_writer}
 use Rattle.sds_first_node.proofs.find.writer_place.Given as goal
 

@@ -1,5 +1,5 @@
 use Rattle.std.proofs.Common.{◌≡◌, ◌∷◌, [], ◌++◌, take, drop}
-use Rattle.sds_first_spec.specs.declared.row.TableRow.{TableRow}
+use Rattle.sds_types.specs.declared.row.TableRow.{TableRow}
 use Rattle.sds_first_spec.specs.One.{one}
 use Rattle.sds_first_spec.specs.Tables.{key_of}
 use Rattle.sds_first_node.specs.Loaded.{with_row}

@@ -1,5 +1,5 @@
 use Rattle.std.proofs.Common.{◌≡◌, List, subst, arith, vec_len}
-use Rattle.sds_first_spec.specs.declared.answer.Ack.{Ack}
+use Rattle.sds_types.specs.declared.ack.Ack.{Ack}
 use Rattle.sds_first_spec.specs.declared.batch.Sent.{Sent}
 use Rattle.sds_first_world.proofs.Pushing.{ReceiveSays, AnswerSays, is_none, is_some, pushed_none, pushed_all}
 use Rattle.sds_first_world.proofs.stage.Stage.push.Goals as goal

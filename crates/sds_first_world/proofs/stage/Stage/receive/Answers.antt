@@ -1,5 +1,5 @@
 use Rattle.std.proofs.Common.{List, ap, ◌∙◌}
-use Rattle.sds_first_spec.specs.declared.answer.Ack.{Ack}
+use Rattle.sds_types.specs.declared.ack.Ack.{Ack}
 use Rattle.sds_first_spec.specs.Screen.{deliver_line}
 use Rattle.sds_first_world.proofs.Staged.{receives, nowhere}
 use Rattle.sds_first_world.proofs.stage.Stage.receive.Goals as goal

@@ -1,0 +1,9 @@
+pub mod Limits
+pub mod Rules
+pub mod ConfigRefusals
+pub mod Standings
+pub mod NodeFaults
+pub mod Registrations
+pub mod DocumentCauses
+pub mod ScenarioCauses
+pub mod Statuses
