@@ -3,7 +3,8 @@ use Rattle.std.proofs.Common.{◌≡◌, inl, inr, ℕ, ◌<◌, ◌≤◌, ◌^
 use Rattle.toml.specs.Data.{Members}
 use Rattle.sds_types.specs.declared.config.Config.{Config}
 use Rattle.sds_types.specs.declared.config_refusal.ConfigRefusal.{ConfigRefusal}
-use Rattle.sds_config.specs.Configuration.{config_of, IsTree, IsConfiguration, IsFirstRefusal}
+use Rattle.sds_types.specs.declared.config_refusal.ConfigRefusal.TheVariants.{NotToml}
+use Rattle.sds_config.specs.Configuration.{config_of, IsTree, IsConfiguration, IsFirstRefusal, without_place}
 
 some_same : (a b : Members) → Some a ≡ Some b → a ≡ b
 some_same a b is = cc
@@ -39,14 +40,17 @@ not_both file config refusal (few, (tree, is_tree, answer)) (inr (inl (few', non
 not_both file config refusal (few, (tree, is_tree, answer)) (inr (inr (few', (tree', is_tree', answer')))) =
     let same : tree ≡ tree' = one_tree file tree tree' is_tree is_tree' in ok_or_err config refusal (config_of tree') (ap config_of (sym same) ∙ answer) answer'
 
-pub one_refusal : (file : List ℕ) (a b : ConfigRefusal) → IsFirstRefusal file a → IsFirstRefusal file b → a ≡ b
-one_refusal file a b (inl (many, is)) (inl (many', is')) = is ∙ sym is'
+placeless : (a b : ConfigRefusal) (l c l' c' : ℕ) → a ≡ NotToml l c → b ≡ NotToml l' c' → without_place a ≡ without_place b
+placeless a b l c l' c' is is' = ap without_place is ∙ sym (ap without_place is')
+
+pub one_refusal : (file : List ℕ) (a b : ConfigRefusal) → IsFirstRefusal file a → IsFirstRefusal file b → without_place a ≡ without_place b
+one_refusal file a b (inl (many, is)) (inl (many', is')) = ap without_place (is ∙ sym is')
 one_refusal file a b (inl (many, is)) (inr (inl (few, none, other))) = absurd (far (length file) few many)
 one_refusal file a b (inl (many, is)) (inr (inr (few, other))) = absurd (far (length file) few many)
 one_refusal file a b (inr (inl (few, none, other))) (inl (many, is)) = absurd (far (length file) few many)
-one_refusal file a b (inr (inl (few, none, is))) (inr (inl (few', none', is'))) = is ∙ sym is'
+one_refusal file a b (inr (inl (few, none, (l, (c, (at, is)))))) (inr (inl (few', none', (l', (c', (at', is')))))) = placeless a b l c l' c' is is'
 one_refusal file a b (inr (inl (few, none, is))) (inr (inr (few', (tree, is_tree, answer)))) = absurd (none tree is_tree)
 one_refusal file a b (inr (inr (few, other))) (inl (many, is)) = absurd (far (length file) few many)
 one_refusal file a b (inr (inr (few, (tree, is_tree, answer)))) (inr (inl (few', none, is))) = absurd (none tree is_tree)
 one_refusal file a b (inr (inr (few, (tree, is_tree, answer)))) (inr (inr (few', (tree', is_tree', answer')))) =
-    let same : tree ≡ tree' = one_tree file tree tree' is_tree is_tree' in err_same a b (sym answer ∙ (ap config_of same ∙ answer'))
+    let same : tree ≡ tree' = one_tree file tree tree' is_tree is_tree' in ap without_place (err_same a b (sym answer ∙ (ap config_of same ∙ answer')))

@@ -6,6 +6,7 @@ use Rattle.toml.specs.Parse.{parse_document}
 use Rattle.sds_types.specs.declared.config.Config.{Config}
 use Rattle.sds_types.specs.declared.config_refusal.ConfigRefusal.{ConfigRefusal}
 use Rattle.sds_types.specs.declared.config_refusal.ConfigRefusal.TheVariants.{NotToml, TooMany}
+use Rattle.sds_config.specs.Positions.{IsPosition}
 use Rattle.sds_config.specs.Refusals.{and_then}
 use Rattle.sds_config.specs.Fields.{only_keys, number_at}
 use Rattle.sds_config.specs.Sections.{section_of}
@@ -102,11 +103,18 @@ IsConfiguration text config = (length text ≤ most_bytes) × ((tree : Members) 
 abbrev pub IsTooLong : List ℕ → ConfigRefusal → Type 0
 IsTooLong text refusal = (most_bytes < length text) × (refusal ≡ TooMany (chars (codes "file")))
 
+-- where the reading of TOML stopped is a place of the text, which no definition of TOML settles
 abbrev pub IsNotToml : List ℕ → ConfigRefusal → Type 0
-IsNotToml text refusal = (length text ≤ most_bytes) × ((tree : Members) → ¬ (IsTree text tree)) × (refusal ≡ NotToml)
+IsNotToml text refusal = (length text ≤ most_bytes) × ((tree : Members) → ¬ (IsTree text tree))
+    × ((line : ℕ) × ((column : ℕ) × (IsPosition text line column × (refusal ≡ NotToml line column))))
 
 abbrev pub IsRefusedTree : List ℕ → ConfigRefusal → Type 0
 IsRefusedTree text refusal = (length text ≤ most_bytes) × ((tree : Members) × IsTree text tree × (config_of tree ≡ Err refusal))
 
 abbrev pub IsFirstRefusal : List ℕ → ConfigRefusal → Type 0
 IsFirstRefusal text refusal = IsTooLong text refusal ⊎ (IsNotToml text refusal ⊎ IsRefusedTree text refusal)
+
+-- a refusal without the place at which the reading of TOML stopped
+abbrev pub without_place : ConfigRefusal → ConfigRefusal
+without_place (NotToml line column) = NotToml 1 1
+without_place refusal = refusal

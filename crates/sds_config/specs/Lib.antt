@@ -1,4 +1,5 @@
 pub mod Refusals
+pub mod Positions
 pub mod Fields
 pub mod Sections
 pub mod Words

@@ -1,11 +1,14 @@
+//! Laws of the configuration file.
 ghost use Rattle.std.specs.Prelude.{◌≡◌, ℕ, List};
 ghost use Rattle.sds_types.specs.declared.config.Config.{Config};
 ghost use Rattle.sds_types.specs.declared.config_refusal.ConfigRefusal.{ConfigRefusal};
-ghost use Rattle.sds_config.specs.Configuration.{IsConfiguration, IsFirstRefusal};
+ghost use Rattle.sds_config.specs.Configuration.{IsConfiguration, IsFirstRefusal, without_place};
 
-/// The law that a file has one reading: it writes at most one configuration, or has at most one first refusal, and never both.
+/// The law that a file has one reading: it writes at most one configuration, or has at most one first refusal, but for the
+/// place at which the reading of TOML stopped, and never both.
 pub fn files_have_one_reading()
     ensures configuration { (file : List ℕ) (a b : Config) → IsConfiguration file a → IsConfiguration file b → a ≡ b }
-    ensures refusal { (file : List ℕ) (a b : ConfigRefusal) → IsFirstRefusal file a → IsFirstRefusal file b → a ≡ b }
+    ensures refusal { (file : List ℕ) (a b : ConfigRefusal) → IsFirstRefusal file a → IsFirstRefusal file b
+        → without_place a ≡ without_place b }
     ensures apart { (file : List ℕ) (config : Config) (refusal : ConfigRefusal) → IsConfiguration file config → IsFirstRefusal file refusal → ⊥ }
 {}

@@ -13,6 +13,7 @@ mod laws;
 mod links;
 mod named;
 mod pairs;
+mod position;
 mod read;
 mod reading;
 mod routers;

@@ -5,7 +5,7 @@ use Rattle.sds_types.specs.declared.config_refusal.ConfigRefusal.TheVariants.{No
 
 -- out of memory is no statement about the file
 abbrev pub number_of : ConfigRefusal → ℕ
-number_of NotToml = 1
+number_of (NotToml line column) = 1
 number_of (MissingEntry path) = 2
 number_of (WrongType path) = 3
 number_of (UnknownName path) = 4
@@ -17,7 +17,7 @@ number_of (TooMany path) = 9
 number_of NoMemory = 0
 
 abbrev pub name_of : ConfigRefusal → List ℕ
-name_of NotToml = codes "NotToml"
+name_of (NotToml line column) = codes "NotToml"
 name_of (MissingEntry path) = codes "MissingEntry"
 name_of (WrongType path) = codes "WrongType"
 name_of (UnknownName path) = codes "UnknownName"
@@ -30,7 +30,7 @@ name_of NoMemory = codes "NoMemory"
 
 -- the text that a refusal names
 abbrev pub path_of : ConfigRefusal → Option (List ℕ)
-path_of NotToml = None
+path_of (NotToml line column) = None
 path_of (MissingEntry path) = Some path
 path_of (WrongType path) = Some path
 path_of (UnknownName path) = Some path

@@ -9,8 +9,9 @@ use std::alloc::{AllocError, AllocFailed};
 /// that a refusal has is the path of what is refused, as `channel[0].id`, with places from 0.
 #[derive(Debug, PartialEq, Eq, Drop)]
 pub enum ConfigRefusal {
-    /// The file isn't TOML in UTF-8.
-    NotToml,
+    /// The file isn't TOML in UTF-8: the line and the column, from 1, at which the reading of TOML stopped. A column counts
+    /// characters.
+    NotToml { line: u32, column: u32 },
     /// A field that has no default is absent.
     MissingEntry(Txt),
     /// A value has another type than its field.
@@ -65,7 +66,7 @@ impl ConfigRefusal {
         ensures { result ≡ number_of self.now }
     {
         match self {
-            ConfigRefusal::NotToml => 1,
+            ConfigRefusal::NotToml { .. } => 1,
             ConfigRefusal::MissingEntry(_) => 2,
             ConfigRefusal::WrongType(_) => 3,
             ConfigRefusal::UnknownName(_) => 4,
@@ -83,7 +84,7 @@ impl ConfigRefusal {
         ensures { result.now ≡ name_of self.now }
     {
         match self {
-            ConfigRefusal::NotToml => "NotToml",
+            ConfigRefusal::NotToml { .. } => "NotToml",
             ConfigRefusal::MissingEntry(_) => "MissingEntry",
             ConfigRefusal::WrongType(_) => "WrongType",
             ConfigRefusal::UnknownName(_) => "UnknownName",
@@ -101,7 +102,7 @@ impl ConfigRefusal {
         ensures { option_copied result ≡ path_of self.now }
     {
         match self {
-            ConfigRefusal::NotToml | ConfigRefusal::NoMemory => None,
+            ConfigRefusal::NotToml { .. } | ConfigRefusal::NoMemory => None,
             ConfigRefusal::MissingEntry(path)
             | ConfigRefusal::WrongType(path)
             | ConfigRefusal::UnknownName(path)

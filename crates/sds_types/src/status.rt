@@ -11,6 +11,17 @@ pub enum InputCause {
     Document(DocumentCause),
 }
 
+/// What could not be read.
+#[derive(Clone, Copy, Debug, PartialEq, Eq)]
+pub enum Unreadable {
+    /// The configuration file.
+    Configuration,
+    /// The input.
+    Input,
+    /// The random bytes that tokens are made of.
+    Noise,
+}
+
 /// How a command ended. The statuses and their numbers are symds' own.
 #[derive(Debug, Drop)]
 pub enum Status {
@@ -22,8 +33,8 @@ pub enum Status {
     Words { place: u32 },
     /// The configuration file is refused.
     Config(ConfigRefusal),
-    /// A reading failed, of the configuration file or of the input.
-    ReadFault,
+    /// A reading failed.
+    ReadFault(Unreadable),
     /// A writing failed. What was written is a prefix of what was to be written, and the step stands.
     WriteFault,
     /// The keeper of the records failed.
@@ -94,7 +105,7 @@ impl Status {
             Status::Refused { .. } => 1,
             Status::Words { .. } => 2,
             Status::Config(_) => 3,
-            Status::ReadFault => 4,
+            Status::ReadFault(_) => 4,
             Status::WriteFault => 5,
             Status::KeeperFault => 6,
             Status::LinkFault => 7,
@@ -122,7 +133,7 @@ impl Status {
             Status::Refused { .. } => "Refused",
             Status::Words { .. } => "Words",
             Status::Config(_) => "Config",
-            Status::ReadFault => "ReadFault",
+            Status::ReadFault(_) => "ReadFault",
             Status::WriteFault => "WriteFault",
             Status::KeeperFault => "KeeperFault",
             Status::LinkFault => "LinkFault",

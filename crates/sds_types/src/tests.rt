@@ -1,11 +1,16 @@
 //! Numbers and names as the outside sees them, and copies.
 use crate::{
     ConfigRefusal, CreateRefusal, DocumentCause, InputCause, NodeFault, RegRefusal, Row, Rule,
-    ScenarioCause, Standing, Status,
+    ScenarioCause, Standing, Status, Unreadable,
 };
 use sds_base::{List, NoMemory, Same, Twin, Txt};
 use sds_value::Value;
 use std::test::Fail;
+
+/// A file that isn't TOML.
+fn not_toml() -> ConfigRefusal {
+    ConfigRefusal::NotToml { line: 2, column: 7 }
+}
 
 #[test]
 fn rules_have_the_numbers_that_are_printed(rt: HostRuntime) {
@@ -78,8 +83,8 @@ fn statuses_end_the_process_with_their_numbers(rt: HostRuntime) {
             "Refused",
         ),
         (Status::Words { place: 0 }, 2, "Words"),
-        (Status::Config(ConfigRefusal::NotToml), 3, "Config"),
-        (Status::ReadFault, 4, "ReadFault"),
+        (Status::Config(not_toml()), 3, "Config"),
+        (Status::ReadFault(Unreadable::Input), 4, "ReadFault"),
         (Status::NoMemory, 8, "NoMemory"),
         (
             Status::Registration(RegRefusal::AlreadyOpen),
@@ -103,9 +108,9 @@ fn refusals_have_their_numbers_and_names(rt: HostRuntime) {
     assert_eq!(rt; RegRefusal::IdTaken.name(), "IdTaken");
     assert_eq!(rt; CreateRefusal::NotEmpty.number(), 1);
     assert_eq!(rt; CreateRefusal::NotEmpty.name(), "NotEmpty");
-    assert_eq!(rt; ConfigRefusal::NotToml.number(), 1);
-    assert_eq!(rt; ConfigRefusal::NotToml.name(), "NotToml");
-    assert!(rt; ConfigRefusal::NotToml.path().is_none());
+    assert_eq!(rt; not_toml().number(), 1);
+    assert_eq!(rt; not_toml().name(), "NotToml");
+    assert!(rt; not_toml().path().is_none());
     assert_eq!(rt; Standing::Acked.name(), "OK");
 }
 

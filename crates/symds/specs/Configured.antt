@@ -4,16 +4,17 @@ use Rattle.sds_types.specs.declared.config.Config.{Config}
 use Rattle.sds_types.specs.declared.config_refusal.ConfigRefusal.{ConfigRefusal}
 use Rattle.sds_types.specs.declared.status.Status.{Status}
 use Rattle.sds_types.specs.declared.status.Status.TheVariants as status
+use Rattle.sds_types.specs.declared.status.Unreadable.{Unreadable}
 use Rattle.sds_config.specs.Configuration.{IsConfiguration, IsFirstRefusal}
 use Rattle.sds_first_spec.specs.One.{one}
-use Rattle.symds.specs.Rehearsed.{Tells}
+use Rattle.symds.specs.Rehearsed.{IsNoFault, Tells}
 
 -- the statuses with which a reading of the configuration may end a command
 abbrev pub IsUnread : Status → Type 0
-IsUnread answer = (answer ≡ status.ReadFault)
+IsUnread answer = ((what : Unreadable) × (answer ≡ status.ReadFault what))
     ⊎ ((answer ≡ status.NoMemory) ⊎ ((refusal : ConfigRefusal) × (answer ≡ status.Config refusal)))
 
--- the status says the file's first refusal
+-- the status says the file's first refusal; where it isn't TOML, with some place of the file at which that was seen
 abbrev pub SaysRefusal : List ℕ → Status → Type 0
 SaysRefusal file answer =
     (refusal : ConfigRefusal) × (IsFirstRefusal file refusal × (answer ≡ status.Config refusal))
@@ -25,4 +26,4 @@ pub record TellsOf (file text : List ℕ) (answer : Status) (old new : Option (L
   pub built : IsConfiguration file one → Tells true text answer old new
   pub unbuilt : (config : Config) → IsConfiguration file config → config ≢ one → Tells false text answer old new
   pub refused : (refusal : ConfigRefusal) → IsFirstRefusal file refusal
-      → (answer ≢ status.ReadFault → answer ≢ status.NoMemory → answer ≡ status.Config refusal) × (new ≡ old)
+      → (IsNoFault answer → answer ≢ status.NoMemory → SaysRefusal file answer) × (new ≡ old)

@@ -7,6 +7,8 @@ use Rattle.sds_types.specs.declared.status.InputCause.{InputCause}
 use Rattle.sds_types.specs.declared.status.InputCause.TheVariants.{Scenario}
 use Rattle.sds_types.specs.declared.status.Status.{Status}
 use Rattle.sds_types.specs.declared.status.Status.TheVariants.{Done, ReadFault, WriteFault, NoMemory, BadInput}
+use Rattle.sds_types.specs.declared.status.Unreadable.{Unreadable}
+use Rattle.sds_types.specs.declared.status.Unreadable.TheVariants.{Configuration, Input, Noise}
 use Rattle.sds_first_world.specs.declared.rehearsal.BadLine.{BadLine}
 use Rattle.sds_first_world.specs.declared.rehearsal.WorldRefusal.{WorldRefusal}
 use Rattle.sds_first_world.specs.declared.rehearsal.WorldRefusal.TheVariants as refusal
@@ -25,7 +27,7 @@ IsFirstCause cause = (cause ≡ Scenario BadForm) ⊎ ((cause ≡ Scenario Unfin
 -- the status of a rehearsal's ending
 abbrev pub status_by : Result (Unit {0}) WorldRefusal → Status
 status_by (Ok done) = Done
-status_by (Err refusal.ReadFault) = ReadFault
+status_by (Err refusal.ReadFault) = ReadFault Input
 status_by (Err refusal.WriteFault) = WriteFault
 status_by (Err (refusal.BadLine line cause)) = BadInput line (Scenario (cause_of cause))
 status_by (Err refusal.NoMemory) = NoMemory
@@ -35,10 +37,20 @@ abbrev pub status_of : Option BadLine → Status
 status_of None = Done
 status_of (Some bad) = BadInput bad.line (Scenario (cause_of bad.cause))
 
+-- no reading failed
+abbrev pub IsNoFault : Status → Type 0
+IsNoFault status = (what : Unreadable) → status ≢ ReadFault what
+
+-- what makes a failed reading: the configuration's count of faults rose, or the input's
+abbrev pub IsCausedBy : Unreadable → Type 0 → Type 0 → Type 0
+IsCausedBy Configuration config input = config
+IsCausedBy Input config input = input
+IsCausedBy Noise config input = ⊥
+
 -- what a rehearsal of a text is answered and writes, by whether its lines are supported: the status and the whole screen
 -- that the text has, unless a fault or out of memory came; and always a prefix of the screen
 pub record Tells (is_built : Bool) (text : List ℕ) (status : Status) (old new : Option (List ℕ)) : Type 0 where
-  pub ends : status ≢ ReadFault → status ≢ WriteFault → status ≢ NoMemory
+  pub ends : IsNoFault status → status ≢ WriteFault → status ≢ NoMemory
       → (status ≡ status_of (refusal_of is_built text)) × (new ≡ after_told old (screen is_built text))
   pub part : (n : ℕ) × ((n ≤ length (screen is_built text))
       × (new ≡ after_told old (take n (screen is_built text))))

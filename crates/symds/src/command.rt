@@ -9,14 +9,15 @@ ghost use Rattle.sds_first_spec.specs.One.{one};
 ghost use Rattle.sds_first_spec.specs.World.{empty_world};
 ghost use Rattle.sds_first_world.specs.Played.{events_of};
 ghost use Rattle.symds.specs.Configured.{IsUnread, SaysRefusal, TellsOf};
-ghost use Rattle.symds.specs.Rehearsed.{IsFirstCause, cause_of, status_by, Tells};
+ghost use Rattle.symds.specs.Rehearsed.{IsCausedBy, IsFirstCause, IsNoFault, cause_of, status_by, Tells};
 ghost use Rattle.symds.specs.Words.{is_rehearse};
 
 use sds_base::Txt;
 use sds_config::ReadConfig;
 use sds_first_world::{WorldRefusal, rehearse};
 use sds_outside::{Keeper, Link, ReadStop, Sink, Source, read_all};
-use sds_types::{Config, ConfigRefusal, InputCause, MOST_CONFIG_BYTES, ScenarioCause, Status};
+use sds_types::limits::MOST_CONFIG_BYTES;
+use sds_types::{Config, ConfigRefusal, InputCause, ScenarioCause, Status, Unreadable};
 use std::alloc::Global;
 
 /// Does what the words say: `rehearse` reads the configuration file, plays the scenario of `input` under it and writes its
@@ -43,8 +44,9 @@ pub fn run<K: Keeper, S: Source, I: Source, W: Sink, L: Link>(
     ensures words_only { (place : ℕ) → result.0 ≡ Status.Words place → (place ≡ 0) × (is_rehearse words.now ≡ false) }
     ensures words_untouched { is_rehearse words.now ≡ false → (config.new ≡ config.old) × (input.new ≡ input.old) × (out.new ≡ out.old) }
     ensures config_untouched { (refusal : ConfigRefusal) → result.0 ≡ Status.Config refusal → (input.new ≡ input.old) × (out.new ≡ out.old) }
-    ensures read { result.0 ≡ Status.ReadFault → Rose (S.faults config.old) (S.faults config.new) ⊎ Rose (I.faults input.old) (I.faults input.new) }
-    ensures read_writes { result.0 ≡ Status.ReadFault → W.taken out.new ≡ W.taken out.old }
+    ensures read { (what : Unreadable) → result.0 ≡ Status.ReadFault what
+        → IsCausedBy what (Rose (S.faults config.old) (S.faults config.new)) (Rose (I.faults input.old) (I.faults input.new)) }
+    ensures read_writes { (what : Unreadable) → result.0 ≡ Status.ReadFault what → W.taken out.new ≡ W.taken out.old }
     ensures write { result.0 ≡ Status.WriteFault → Rose (W.faults out.old) (W.faults out.new) }
     ensures cause { (line : ℕ) (cause : InputCause) → result.0 ≡ Status.BadInput line cause → IsFirstCause cause }
 {
@@ -85,8 +87,9 @@ fn play<S: Source, I: Source, W: Sink>(
     ensures done { result ≡ Status.Done → IsAtEnd (I.left input.new) }
     ensures words { (place : ℕ) → result ≡ Status.Words place → ⊥ }
     ensures config_untouched { (refusal : ConfigRefusal) → result ≡ Status.Config refusal → (input.new ≡ input.old) × (out.new ≡ out.old) }
-    ensures read { result ≡ Status.ReadFault → Rose (S.faults config.old) (S.faults config.new) ⊎ Rose (I.faults input.old) (I.faults input.new) }
-    ensures read_writes { result ≡ Status.ReadFault → W.taken out.new ≡ W.taken out.old }
+    ensures read { (what : Unreadable) → result ≡ Status.ReadFault what
+        → IsCausedBy what (Rose (S.faults config.old) (S.faults config.new)) (Rose (I.faults input.old) (I.faults input.new)) }
+    ensures read_writes { (what : Unreadable) → result ≡ Status.ReadFault what → W.taken out.new ≡ W.taken out.old }
     ensures write { result ≡ Status.WriteFault → Rose (W.faults out.old) (W.faults out.new) }
     ensures cause { (line : ℕ) (cause : InputCause) → result ≡ Status.BadInput line cause → IsFirstCause cause }
 {
@@ -100,14 +103,15 @@ fn play<S: Source, I: Source, W: Sink>(
 /// Reads the configuration of a file, or says with which status the call ends.
 fn read_config<S: Source>(alloc: Global, source: &mut S) -> Result<Config, Status>
     ensures ok { IfOk result (λ config. IfSome (S.left source.old) (λ file. IsConfiguration file config)) }
-    ensures refused { IfErr result (λ status. status ≢ Status.ReadFault → status ≢ Status.NoMemory
+    ensures refused { IfErr result (λ status. IsNoFault status → status ≢ Status.NoMemory
         → IfSome (S.left source.old) (λ file. SaysRefusal file status)) }
-    ensures fault { IfErr result (λ status. status ≡ Status.ReadFault → Rose (S.faults source.old) (S.faults source.new)) }
+    ensures fault { IfErr result (λ status. (what : Unreadable) → status ≡ Status.ReadFault what
+        → (what ≡ Unreadable.Configuration) × Rose (S.faults source.old) (S.faults source.new)) }
     ensures other { IfErr result IsUnread }
 {
     let whole = match read_all(alloc, source, MOST_CONFIG_BYTES) {
         Ok(whole) => whole,
-        Err(ReadStop::Fault) => return Err(Status::ReadFault),
+        Err(ReadStop::Fault) => return Err(Status::ReadFault(Unreadable::Configuration)),
         Err(ReadStop::NoMemory) => return Err(Status::NoMemory),
     };
     match Config::read(alloc, whole.bytes.inner()) {
@@ -141,8 +145,9 @@ fn play_under<I: Source, W: Sink>(
     ensures done { result ≡ Status.Done → IsAtEnd (I.left input.new) }
     ensures words { (place : ℕ) → result ≡ Status.Words place → ⊥ }
     ensures config { (refusal : ConfigRefusal) → result ≡ Status.Config refusal → ⊥ }
-    ensures read { result ≡ Status.ReadFault → Rose (I.faults input.old) (I.faults input.new) }
-    ensures read_writes { result ≡ Status.ReadFault → W.taken out.new ≡ W.taken out.old }
+    ensures read { (what : Unreadable) → result ≡ Status.ReadFault what
+        → (what ≡ Unreadable.Input) × Rose (I.faults input.old) (I.faults input.new) }
+    ensures read_writes { (what : Unreadable) → result ≡ Status.ReadFault what → W.taken out.new ≡ W.taken out.old }
     ensures write { result ≡ Status.WriteFault → Rose (W.faults out.old) (W.faults out.new) }
     ensures cause { (line : ℕ) (cause : InputCause) → result ≡ Status.BadInput line cause → IsFirstCause cause }
 {
@@ -156,7 +161,7 @@ fn status_by(ending: Result<(), WorldRefusal>) -> Status
 {
     match ending {
         Ok(()) => Status::Done,
-        Err(WorldRefusal::ReadFault) => Status::ReadFault,
+        Err(WorldRefusal::ReadFault) => Status::ReadFault(Unreadable::Input),
         Err(WorldRefusal::WriteFault) => Status::WriteFault,
         Err(WorldRefusal::BadLine { line, cause }) => Status::BadInput {
             line,

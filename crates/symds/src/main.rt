@@ -10,7 +10,7 @@ mod tests_config;
 use command::run;
 use sds_base::{List, Txt};
 use sds_outside::{FileSource, MemKeeper, MemLink, StdSink, StdSource};
-use sds_types::{InputCause, ScenarioCause, Status};
+use sds_types::{ConfigRefusal, InputCause, ScenarioCause, Status, Unreadable};
 use std::alloc::Global;
 use std::process::ExitCode;
 use std::random::RandomSource;
@@ -45,7 +45,7 @@ where
     };
     let mut noise = [0u8; 16];
     if rt.fill_bytes(&mut noise).is_err() {
-        return Status::ReadFault;
+        return Status::ReadFault(Unreadable::Noise);
     }
     let alloc = rt.alloc();
     let mut config = FileSource::open(rt, CONFIGURATION);
@@ -79,15 +79,21 @@ fn tell<R: Eprint>(rt: &R, status: &Status) -> io::Result<()> {
         Status::Config(refusal) => {
             let name = refusal.name();
             match refusal.path() {
-                None => eprintln!(rt; "  {name}: {CONFIGURATION}"),
+                None => tell_place(rt, refusal),
                 Some(path) => {
                     let path = path.as_str();
                     eprintln!(rt; "  {name}: {path}")
                 }
             }
         }
-        Status::ReadFault => {
-            eprintln!(rt; "  {CONFIGURATION} in this folder, or standard input, could not be read")
+        Status::ReadFault(Unreadable::Configuration) => {
+            eprintln!(rt; "  {CONFIGURATION} in this folder could not be read")
+        }
+        Status::ReadFault(Unreadable::Input) => {
+            eprintln!(rt; "  standard input could not be read")
+        }
+        Status::ReadFault(Unreadable::Noise) => {
+            eprintln!(rt; "  the system gave no random bytes")
         }
         Status::BadInput { line, cause } => {
             let why = why(*cause);
@@ -95,6 +101,17 @@ fn tell<R: Eprint>(rt: &R, status: &Status) -> io::Result<()> {
             eprintln!(rt; "  line {line}: {why} (cause {number})")
         }
         _ => Ok(()),
+    }
+}
+
+/// Tells where a file that isn't TOML ends to be it.
+fn tell_place<R: Eprint>(rt: &R, refusal: &ConfigRefusal) -> io::Result<()> {
+    let name = refusal.name();
+    match refusal {
+        ConfigRefusal::NotToml { line, column } => {
+            eprintln!(rt; "  {name}: {CONFIGURATION}, line {line}, column {column}")
+        }
+        _ => eprintln!(rt; "  {name}: {CONFIGURATION}"),
     }
 }
 
