@@ -1,2 +1,4 @@
 pub mod Readings
+pub mod Matching
+pub mod Ordering
 pub mod Telling

@@ -6,6 +6,7 @@ mod command;
 mod tests;
 #[cfg(test)]
 mod tests_config;
+mod words;
 
 use command::run;
 use sds_base::{List, Txt};
