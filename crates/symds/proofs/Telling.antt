@@ -16,7 +16,7 @@ use Rattle.sds_types.specs.declared.status.Status.{Status}
 use Rattle.sds_types.specs.declared.status.Status.TheVariants as status
 use Rattle.sds_types.specs.declared.status.Unreadable.{Unreadable}
 use Rattle.sds_types.specs.declared.status.Unreadable.TheVariants.{Input}
-use Rattle.symds.specs.Configured.{TellsOf, IsUnread, SaysRefusal}
+use Rattle.symds.specs.Configured.{IsRefusedBy, IsUnread, SaysRefusal, TellsOf}
 use Rattle.symds.specs.Rehearsed.{status_by, status_of, IsNoFault, Tells}
 
 -- A REHEARSAL
@@ -58,7 +58,6 @@ read_of : (file text : List ℕ) (config : Config) (answer : Status) (old new : 
 read_of file text config answer old new is first other = record {
   built = λ ours. first (one_configuration file config one is ours);
   unbuilt = λ theirs known not_one. other (λ same. not_one (one_configuration file theirs config known is ∙ same));
-  refused = λ refusal known. absurd (not_both file config refusal is known);
 }
 
 pub read_so : (f o : Option (List ℕ)) (config : Config) (answer : Status) (old new : Option (List ℕ)) → IfSome f (λ (file : List ℕ). IsConfiguration file config) → (config ≡ one → TellsTo true o answer old new)
@@ -83,7 +82,6 @@ refused_of file text answer told is by =
     record {
       built = λ ours. unread_so true text answer told is (never one ours);
       unbuilt = λ config known other. unread_so false text answer told is (never config known);
-      refused = λ why known. (by, refl);
     }
 
 pub refused_so : (f o : Option (List ℕ)) (answer : Status) (told : Option (List ℕ)) → IsUnread answer → (IsNoFault answer → answer ≢ status.NoMemory → IfSome f (λ (file : List ℕ). SaysRefusal file answer))
@@ -91,3 +89,13 @@ pub refused_so : (f o : Option (List ℕ)) (answer : Status) (told : Option (Lis
 refused_so None o answer told is by = tt
 refused_so (Some file) None answer told is by = tt
 refused_so (Some file) (Some text) answer told is by = refused_of file text answer told is by
+
+pub refused_by : (f : Option (List ℕ)) (answer : Status) (told : Option (List ℕ)) → (IsNoFault answer → answer ≢ status.NoMemory → IfSome f (λ (file : List ℕ). SaysRefusal file answer))
+    → IfSome f (λ (file : List ℕ). IsRefusedBy file answer told told)
+refused_by None answer told by = tt
+refused_by (Some file) answer told by = λ refusal known. (by, refl)
+
+pub never_refused : (f : Option (List ℕ)) (config : Config) (answer : Status) (old new : Option (List ℕ)) → IfSome f (λ (file : List ℕ). IsConfiguration file config)
+    → IfSome f (λ (file : List ℕ). IsRefusedBy file answer old new)
+never_refused None config answer old new is = tt
+never_refused (Some file) config answer old new is = λ refusal known. absurd (not_both file config refusal is known)

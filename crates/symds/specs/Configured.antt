@@ -19,11 +19,14 @@ abbrev pub SaysRefusal : List ℕ → Status → Type 0
 SaysRefusal file answer =
     (refusal : ConfigRefusal) × (IsFirstRefusal file refusal × (answer ≡ status.Config refusal))
 
+-- a file that is refused ends the command with its first refusal and with nothing written, unless a reading failed or
+-- memory ran out first
+abbrev pub IsRefusedBy : List ℕ → Status → Option (List ℕ) → Option (List ℕ) → Type 0
+IsRefusedBy file answer old new = (refusal : ConfigRefusal) → IsFirstRefusal file refusal
+    → (IsNoFault answer → answer ≢ status.NoMemory → SaysRefusal file answer) × (new ≡ old)
+
 -- What a rehearsal is answered and writes by the texts of its configuration file and of its scenario. Lines are supported
--- under the one configuration alone. A file that is refused ends the command with its first refusal before anything is
--- written, unless a fault or out of memory came first.
+-- under the one configuration alone.
 pub record TellsOf (file text : List ℕ) (answer : Status) (old new : Option (List ℕ)) : Type 0 where
   pub built : IsConfiguration file one → Tells true text answer old new
   pub unbuilt : (config : Config) → IsConfiguration file config → config ≢ one → Tells false text answer old new
-  pub refused : (refusal : ConfigRefusal) → IsFirstRefusal file refusal
-      → (IsNoFault answer → answer ≢ status.NoMemory → SaysRefusal file answer) × (new ≡ old)

@@ -1,3 +1,4 @@
+pub mod Help
 pub mod Configured
 pub mod Rehearsed
 pub mod Words

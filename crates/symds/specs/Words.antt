@@ -160,3 +160,17 @@ IsRefused words (Bad place) =
 IsRefused words Help = IsAmong kind.DisplayHelp (fault_of program (texts_of words))
 IsRefused words Version = IsAmong kind.DisplayVersion (fault_of program (texts_of words))
 IsRefused words NoMemory = Unit {0}
+
+-- the words ask for this and for nothing else
+abbrev pub IsHelp : List (List ℕ) → Type 0
+IsHelp words = fault_of program (texts_of words) ≡ kind.DisplayHelp ∷ []
+
+abbrev pub IsVersion : List (List ℕ) → Type 0
+IsVersion words = fault_of program (texts_of words) ≡ kind.DisplayVersion ∷ []
+
+-- the words are no order: a value or a word after the command doesn't fit, or clap finds one mistake
+abbrev pub IsMisfit : List (List ℕ) → ℕ → Type 0
+IsMisfit words place =
+    ((fault_of program (texts_of words) ≡ []) × (order_of (texts_of words) ≡ Err (Bad place)))
+    ⊎ ((place ≡ 0) × ((mistake : ErrorKind)
+    × ((fault_of program (texts_of words) ≡ mistake ∷ []) × IsMistake mistake)))

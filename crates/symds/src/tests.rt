@@ -139,6 +139,23 @@ fn other_words_are_refused(rt: HostRuntime) -> Result<(), Fail> {
 }
 
 #[test]
+fn help_and_the_version_are_printed(rt: HostRuntime) -> Result<(), Fail> {
+    let alloc = rt.alloc();
+    for (word, front, room) in [
+        ("--help", "symds plays rehearsals", 2_000),
+        ("--version", "symds 0.1.0\n", 12),
+    ] {
+        let ended = called(alloc, word, Vec::new(alloc), List::new(alloc), room)?;
+        assert_eq!(rt; told(alloc, &ended.status)?.as_str(), "Done");
+        assert!(rt; ended.written.starts_with(front.as_bytes()));
+        let ended = called(alloc, word, Vec::new(alloc), List::new(alloc), 5)?;
+        assert_eq!(rt; told(alloc, &ended.status)?.as_str(), "WriteFault");
+        assert_eq!(rt; ended.written.as_slice(), b"symds".as_slice());
+    }
+    Ok(())
+}
+
+#[test]
 fn a_reading_that_fails_writes_nothing(rt: HostRuntime) -> Result<(), Fail> {
     let alloc = rt.alloc();
     for call in 1..4u64 {

@@ -12,6 +12,6 @@ returns-in-Some c = value_plain (found_of c.args.matches.now) c.args.id.now c.in
 pub returns-in_default : goal.returns-in_default
 returns-in_default c = elim c.in_default.branch [
   | in_default-via-in-Some+else-is_plain w ↦ value_other (found_of c.args.matches.now) c.args.id.now w.in-Some.value.now w.in-Some.ensures
-    (ap is_plain (sym w.as_bytes.ensures.value) ∙ sym w.if-is_plain.ensures)
+      (ap is_plain (sym w.as_bytes.ensures.value) ∙ sym w.if-is_plain.ensures)
   | in_default-via-in_default w ↦ value_none (found_of c.args.matches.now) c.args.id.now w.in_default.ensures
 ]
