@@ -50,6 +50,7 @@ fn refusal_message(alloc: Global, refusal: &ConfigRefusal, file: &str) -> Result
     let name = refusal.name();
     let why = refusal_cause(refusal);
     let path = match refusal.path() {
+        Some(path) if path.is_empty() => String::from_str(alloc, "the key \"\"")?,
         Some(path) => escaped(alloc, path.as_str())?,
         None => escaped(alloc, file)?,
     };

@@ -77,6 +77,17 @@ fn a_bad_expression_tells_its_place(rt: HostRuntime) -> Result<(), Fail> {
 }
 
 #[test]
+fn an_empty_key_is_told(rt: HostRuntime) -> Result<(), Fail> {
+    let alloc = rt.alloc();
+    let status = Status::Config(ConfigRefusal::BadSetting(Txt::copied(alloc, "")?));
+    assert_eq!(rt;
+        told(alloc, &status)?.as_str(),
+        "BadSetting: the key \"\": the key is unknown, or the value is not one that it takes"
+    );
+    Ok(())
+}
+
+#[test]
 fn control_characters_are_told_by_their_numbers(rt: HostRuntime) -> Result<(), Fail> {
     let alloc = rt.alloc();
     for (text, shown) in [
