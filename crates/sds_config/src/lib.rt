@@ -22,28 +22,6 @@ mod sections;
 mod tables;
 #[cfg(test)]
 mod tests;
-#[cfg(test)]
-mod tests_columns;
-#[cfg(test)]
-mod tests_conflicts;
-#[cfg(test)]
-mod tests_faults;
-#[cfg(test)]
-mod tests_limits;
-#[cfg(test)]
-mod tests_order;
-#[cfg(test)]
-mod tests_printed;
-#[cfg(test)]
-mod tests_routers;
-#[cfg(test)]
-mod tests_sections;
-#[cfg(test)]
-mod tests_transforms;
-#[cfg(test)]
-mod tests_whole;
-#[cfg(test)]
-mod tests_words;
 mod transforms;
 mod triggers;
 mod words;

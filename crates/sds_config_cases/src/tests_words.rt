@@ -1,8 +1,8 @@
 // Each word of the file as its setting, and what the expressions of routers and of transforms' columns say.
 use crate::tests_printed::print;
 use crate::tests_whole::read;
-use crate::{ColumnExpression, RouterDef, RouterExpression, TransformColumn};
 use sds_base::NoMemory;
+use sds_types::{ColumnExpression, RouterDef, RouterExpression, TransformColumn};
 use std::alloc::Global;
 use std::process::Abort;
 use std::test::Fail;

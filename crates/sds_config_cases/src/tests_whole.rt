@@ -1,305 +1,89 @@
-// The whole values of configurations, each written out by hand. The texts of examples/ are copies of the files there.
+//! The whole values of configurations, each written out by hand.
 use crate::tests_printed::print;
-use crate::{Config, ReadConfig};
 use sds_base::{NoMemory, Same};
+use sds_config::ReadConfig;
+use sds_types::Config;
 use std::alloc::Global;
 use std::process::Abort;
 use std::test::Fail;
 
-/// examples/two-nodes/symds.toml.
-const TWO_NODES: &str = r#"# The configuration of a head office that sends one table to its stores.
-# The scenario beside this file is played under it. docs/CONFIGURATION.md explains every field.
-
-version = 1
-
-# A node belongs to a group, and all of these settings speak of groups. Here are the head office and the stores.
+/// The configuration of examples/tiers.
+const TIERS: &str = r#"version = 1
 [[group]]
 id = "corp"
-
-[[group]]
-id = "store"
-
-# Changes go from corp to store, and the sender pushes them.
-[[link]]
-source = "corp"
-target = "store"
-action = "P"
-
-# One stream of batches. A batch is closed at the end of the first transaction with which it holds 10,000 changes or more.
-[[channel]]
-id = "data"
-processing_order = 1
-max_batch_size = 10_000
-max_batch_to_send = 10_000
-batch_algorithm = "default"
-
-# The one table: a number that is the key, and a text that may be null.
-[[table]]
-id = "pair"
-columns = [
-  "id INTEGER KEY",
-  "text VARCHAR(40)",
-]
-
-# Inserts, updates and deletes of pair are captured and go by the channel data.
-[[trigger]]
-id = "pair"
-source_table = "pair"
-channel = "data"
-
-# At a node of corp: every node of store gets the change.
-[[router]]
-id = "down"
-source_group = "corp"
-target_group = "store"
-type = "default"
-
-# What the trigger captures, that router routes. A trigger without such an entry sends nothing.
-[[trigger_router]]
-trigger = "pair"
-router = "down"
-"#;
-
-/// examples/shop/symds.toml.
-const SHOP: &str =
-    r#"# The configuration of a shop chain: the head office keeps the items, each store keeps its own stock and sales.
-# Items go down to the stores; stock and sales go up to the head office, which keeps the sum of all stocks.
-# docs/CONFIGURATION.md explains every field.
-
-version = 1
-
-[[group]]
-id = "corp"
-
-[[group]]
-id = "store"
-
-# A store fetches what the head office has for it ...
-[[link]]
-source = "corp"
-target = "store"
-action = "W"
-
-# ... and pushes what it has for the head office. So each connection is made by the store.
-[[link]]
-source = "store"
-target = "corp"
-action = "P"
-
-# Three streams with limits of their own. The lowest processing_order goes first, so that an item stands before the
-# stock and the sales that refer to it come.
-[[channel]]
-id = "item"
-processing_order = 10
-max_batch_size = 100
-max_batch_to_send = 10
-batch_algorithm = "default"
-
-[[channel]]
-id = "stock"
-processing_order = 20
-max_batch_size = 100
-max_batch_to_send = 10
-batch_algorithm = "default"
-
-[[channel]]
-id = "sale"
-processing_order = 30
-max_batch_size = 100
-max_batch_to_send = 10
-batch_algorithm = "default"
-
-# A table that is referred to stands before the tables that refer to it.
-[[table]]
-id = "item"
-columns = [
-  "id INTEGER KEY",
-  "name VARCHAR(40) NOT NULL",
-  "price DECIMAL(2)",
-]
-
-[[table]]
-id = "stock"
-columns = [
-  "item_id INTEGER KEY REF item",
-  "qty INTEGER",
-]
-
-# The key is a text that each store makes for itself, so that no two stores make the same one.
-[[table]]
-id = "sale"
-columns = [
-  "id VARCHAR(20) KEY",
-  "store VARCHAR(10) NOT NULL",
-  "item_id INTEGER NOT NULL REF item",
-  "qty INTEGER NOT NULL",
-]
-
-# Each table is captured, each in the channel of its name.
-[[trigger]]
-id = "item"
-source_table = "item"
-channel = "item"
-
-[[trigger]]
-id = "stock"
-source_table = "stock"
-channel = "stock"
-
-[[trigger]]
-id = "sale"
-source_table = "sale"
-channel = "sale"
-
-# From the head office to every store.
-[[router]]
-id = "down"
-source_group = "corp"
-target_group = "store"
-type = "default"
-
-# From a store to the head office.
-[[router]]
-id = "up"
-source_group = "store"
-target_group = "corp"
-type = "default"
-
-# Items go down, stock and sales go up.
-[[trigger_router]]
-trigger = "item"
-router = "down"
-
-[[trigger_router]]
-trigger = "stock"
-router = "up"
-
-[[trigger_router]]
-trigger = "sale"
-router = "up"
-
-# As the head office loads stock, the change of qty at the store is added to the head office's own qty. So its row of
-# an item holds the sum over all stores. The column item_id isn't listed: IMPLIED keeps it as it comes.
-[[transform]]
-id = "sum"
-source_group = "store"
-target_group = "corp"
-point = "LOAD"
-source_table = "stock"
-target_table = "stock"
-column_policy = "IMPLIED"
-
-[[transform.column]]
-target = "qty"
-source = "qty"
-type = "additive"
-"#;
-
-/// examples/tiers/symds.toml.
-const TIERS: &str =
-    r#"# The configuration of a chain with three tiers: a head office, regions, and stores. Stock that is written at any node
-# comes to all others, on its way through the tiers: a region sends on what it was sent.
-# docs/CONFIGURATION.md explains every field.
-
-version = 1
-
-[[group]]
-id = "corp"
-
 [[group]]
 id = "region"
-
 [[group]]
 id = "store"
-
-# Upwards the lower tier pushes ...
 [[link]]
 source = "store"
 target = "region"
 action = "P"
-
 [[link]]
 source = "region"
 target = "corp"
 action = "P"
-
-# ... and downwards the lower tier fetches. So no node of a higher tier calls one of a lower.
 [[link]]
 source = "corp"
 target = "region"
 action = "W"
-
 [[link]]
 source = "region"
 target = "store"
 action = "W"
-
 [[channel]]
 id = "data"
 processing_order = 10
 max_batch_size = 100
 max_batch_to_send = 10
 batch_algorithm = "default"
-
 [[table]]
 id = "stock"
 columns = [
   "item INTEGER KEY",
   "qty INTEGER",
 ]
-
-# sync_on_incoming_batch: rows that a batch brought are captured too, so that they go on to the next tier.
 [[trigger]]
 id = "stock"
 source_table = "stock"
 channel = "data"
 sync_on_incoming_batch = true
-
-# One router for each link: store to region, region to corp, corp to region, region to store.
 [[router]]
 id = "su"
 source_group = "store"
 target_group = "region"
 type = "default"
-
 [[router]]
 id = "rc"
 source_group = "region"
 target_group = "corp"
 type = "default"
-
 [[router]]
 id = "cr"
 source_group = "corp"
 target_group = "region"
 type = "default"
-
 [[router]]
 id = "rs"
 source_group = "region"
 target_group = "store"
 type = "default"
-
-# ping_back_enabled is left out, which means false: a change doesn't go back to the node that it came from.
 [[trigger_router]]
 trigger = "stock"
 router = "su"
-
 [[trigger_router]]
 trigger = "stock"
 router = "rc"
-
 [[trigger_router]]
 trigger = "stock"
 router = "cr"
-
 [[trigger_router]]
 trigger = "stock"
 router = "rs"
 "#;
 
-/// The first of these files in few lines.
-const TWO_NODES_SHORT: &str = r#"version = 1
+/// The configuration of examples/two-nodes.
+const TWO_NODES: &str = r#"version = 1
 group = [{id="corp"}, {id="store"}]
 link = [{source="corp", target="store", action="P"}]
 channel = [{id="data", processing_order=1, max_batch_size=10000, max_batch_to_send=10000, batch_algorithm="default"}]
@@ -321,8 +105,8 @@ router down 0 to 1 Default ""
 trigger 0 with router 0 enabled true ping back false
 "#;
 
-/// The second in few lines.
-const SHOP_SHORT: &str = r#"version = 1
+/// The configuration of examples/shop.
+const SHOP: &str = r#"version = 1
 group = [{id="corp"}, {id="store"}]
 link = [{source="corp", target="store", action="W"}, {source="store", target="corp", action="P"}]
 channel = [
@@ -415,9 +199,7 @@ fn a_configuration_is_what_the_file_says(rt: HostRuntime) -> Result<(), Fail> {
     let alloc = rt.alloc();
     for (file, whole) in [
         (TWO_NODES, TWO_NODES_WHOLE),
-        (TWO_NODES_SHORT, TWO_NODES_WHOLE),
         (SHOP, SHOP_WHOLE),
-        (SHOP_SHORT, SHOP_WHOLE),
         (TIERS, TIERS_WHOLE),
     ] {
         let config = read(alloc, &rt, file)?;

@@ -1,9 +1,9 @@
 // A configuration as a text, an entry a line, in which the tests state whole values.
-use crate::{
+use sds_base::{List, NoMemory, Txt};
+use sds_types::{
     ChannelDef, Config, ConflictDef, LinkDef, RouterDef, TransformColumn, TransformDef, TriggerDef,
     TriggerRouterDef,
 };
-use sds_base::{List, NoMemory, Txt};
 use sds_value::{ColumnDef, TableDef};
 use std::alloc::Global;
 
