@@ -1,6 +1,8 @@
 pub mod Numbers
 pub mod Pieces
 pub mod Computed
+pub mod Forms
+pub mod ColumnForm
 pub mod ColumnTests
 pub mod Lookups
 pub mod Subselects
