@@ -17,7 +17,7 @@ use Rattle.sds_expressions.specs.BadPlaces.{IsFirstBad}
 use Rattle.sds_expressions.specs.ColumnTests as column
 use Rattle.sds_expressions.proofs.Readings as readings
 
-abbrev finish : Reading → Option (List ColumnTest)
+abbrev pub finish : Reading → Option (List ColumnTest)
 finish reading = column.tests_at reading.part reading
 
 abbrev CanEnd : Reading → Type 0
@@ -116,7 +116,7 @@ no_more : (xs : List ℕ) → nat_le 1 (length xs) ≡ false → xs ≡ []
 no_more [] h = refl
 no_more (x ∷ xs) h = absurd (grind (arith, nat_tests))
 
-old_name : (name : List ℕ) → column.asks_old name ≡ true → name ≡ codes "OLD_" ++ drop 4 name
+pub old_name : (name : List ℕ) → column.asks_old name ≡ true → name ≡ codes "OLD_" ++ drop 4 name
 old_name name e = (starts_is Decides-eqb name (codes "OLD_") (column.asks_old name) refl).0 e
 
 -- a name that has no character yet is empty or `OLD_`
@@ -240,7 +240,7 @@ end_same : (place : ℕ) (tests : Option (List ColumnTest)) → readings.ended p
 end_same place None = refl
 end_same place (Some tests) = refl
 
-same : (text : List ℕ) (place : ℕ) (reading : Reading) → readings.run column.step finish place reading text ≡ column.tests_from place reading text
+pub same : (text : List ℕ) (place : ℕ) (reading : Reading) → readings.run column.step finish place reading text ≡ column.tests_from place reading text
 same [] place reading = end_same place (finish reading)
 same (c ∷ cs) place reading = at (column.step reading c) (λ next. same cs (place + 1) next)
   where

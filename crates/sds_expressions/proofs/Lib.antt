@@ -5,3 +5,6 @@ pub mod Readings
 pub mod ColumnHope
 pub mod LookupHope
 pub mod SubselectHope
+pub mod Accepting
+pub mod ColumnSound
+pub mod ColumnWhole
