@@ -13,7 +13,7 @@ use Rattle.sds_types.specs.declared.column_test.Operand.TheVariants.{NodeId, Ext
 use Rattle.sds_expressions.specs.declared.tests_read.Part.{Part}
 use Rattle.sds_expressions.specs.declared.tests_read.Part.TheVariants as part
 use Rattle.sds_expressions.specs.declared.tests_read.Reading.{Reading}
-use Rattle.sds_expressions.specs.BadPlaces.{IsFirstBad}
+use Rattle.sds_expressions.proofs.Readings.{IsBadPlace}
 use Rattle.sds_expressions.specs.ColumnTests as column
 use Rattle.sds_expressions.proofs.Readings as readings
 
@@ -249,5 +249,5 @@ same (c ∷ cs) place reading = at (column.step reading c) (λ next. same cs (pl
     at None more = refl
     at (Some next) more = more next
 
-pub column_bad : (text : List ℕ) (place : ℕ) → column.tests_of text ≡ Err place → IsFirstBad column.tests_of text place
+pub column_bad : (text : List ℕ) (place : ℕ) → column.tests_of text ≡ Err place → IsBadPlace column.tests_of text place
 column_bad text place is = readings.first column.step finish column.tests_of column.beginning (λ text. same text 0 column.beginning) Holds keeps can tt text place is

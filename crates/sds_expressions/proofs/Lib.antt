@@ -8,3 +8,4 @@ pub mod SubselectHope
 pub mod Accepting
 pub mod ColumnSound
 pub mod ColumnWhole
+pub mod ByForm

@@ -13,7 +13,7 @@ use Rattle.sds_expressions.specs.declared.lookup_read.LookupKey.TheVariants.{Tab
 use Rattle.sds_expressions.specs.declared.lookup_read.Part.{Part}
 use Rattle.sds_expressions.specs.declared.lookup_read.Part.TheVariants as part
 use Rattle.sds_expressions.specs.declared.lookup_read.Reading.{Reading}
-use Rattle.sds_expressions.specs.BadPlaces.{IsFirstBad}
+use Rattle.sds_expressions.proofs.Readings.{IsBadPlace}
 use Rattle.sds_expressions.specs.ColumnTests.{is_name_character}
 use Rattle.sds_expressions.specs.Lookups as lookup
 use Rattle.sds_expressions.proofs.ColumnHope.{front_is, rest_is, back_scalars}
@@ -342,5 +342,5 @@ same (c ∷ cs) place reading = at (lookup.step reading c) (λ next. same cs (pl
 at_first : Holds lookup.beginning
 at_first = record { key = Table; more = 76; rest = drop 1 (codes "LOOKUP_TABLE="); still = refl; is = refl }
 
-pub lookup_bad : (text : List ℕ) (place : ℕ) → lookup.lookup_read text ≡ Err place → IsFirstBad lookup.lookup_read text place
+pub lookup_bad : (text : List ℕ) (place : ℕ) → lookup.lookup_read text ≡ Err place → IsBadPlace lookup.lookup_read text place
 lookup_bad text place is = readings.first lookup.step finish lookup.lookup_read lookup.beginning (λ text. same text 0 lookup.beginning) Holds keeps can at_first text place is

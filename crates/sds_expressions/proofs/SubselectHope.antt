@@ -10,7 +10,7 @@ use Rattle.sds_types.specs.declared.subselect.Subselect.{Subselect}
 use Rattle.sds_expressions.specs.declared.subselect_read.Reading.{Reading}
 use Rattle.sds_expressions.specs.declared.subselect_read.Slot.{Slot}
 use Rattle.sds_expressions.specs.declared.subselect_read.Slot.TheVariants as slot
-use Rattle.sds_expressions.specs.BadPlaces.{IsFirstBad}
+use Rattle.sds_expressions.proofs.Readings.{IsBadPlace}
 use Rattle.sds_expressions.specs.ColumnTests.{is_name_character}
 use Rattle.sds_expressions.specs.Subselects as choice
 use Rattle.sds_expressions.proofs.ColumnHope.{front_is, rest_is}
@@ -507,5 +507,5 @@ same (c ∷ cs) place reading = at (choice.step reading c) (λ next. same cs (pl
     at None more = refl
     at (Some next) more = more next
 
-pub subselect_bad : (text : List ℕ) (place : ℕ) → choice.subselect_of text ≡ Err place → IsFirstBad choice.subselect_of text place
+pub subselect_bad : (text : List ℕ) (place : ℕ) → choice.subselect_of text ≡ Err place → IsBadPlace choice.subselect_of text place
 subselect_bad text place is = readings.first choice.step finish choice.subselect_of choice.beginning (λ text. same text 0 choice.beginning) Holds keeps can refl text place is
