@@ -9,3 +9,5 @@ pub mod Accepting
 pub mod ColumnSound
 pub mod ColumnWhole
 pub mod ByForm
+pub mod LookupSound
+pub mod LookupWhole

@@ -3,6 +3,7 @@ pub mod Pieces
 pub mod Computed
 pub mod Forms
 pub mod ColumnForm
+pub mod LookupForm
 pub mod ColumnTests
 pub mod Lookups
 pub mod Subselects

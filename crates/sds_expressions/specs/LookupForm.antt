@@ -1,5 +1,5 @@
 -- The form of a `lookuptable` router's expression: four lines, each a key with its name, in any order.
-use Rattle.std.specs.Prelude.{◌≡◌, ◌⊎◌, ℕ, Bool, true, false, List, [], ◌∷◌, ◌++◌, codes, count_by}
+use Rattle.std.specs.Prelude.{◌≡◌, ◌⊎◌, ◌+◌, ℕ, Bool, true, false, if◌then◌else◌, List, [], ◌∷◌, ◌++◌, codes}
 use Rattle.sds_types.specs.declared.lookup.Lookup.{Lookup}
 use Rattle.sds_value.specs.Names.{is_name_text}
 use Rattle.sds_expressions.specs.declared.lookup_read.LookupKey.{LookupKey}
@@ -26,9 +26,14 @@ is_same_key LookupColumn LookupColumn = true
 is_same_key ExternalId ExternalId = true
 is_same_key key other = false
 
+-- how often a key stands in a list
+abbrev pub count_of : LookupKey → List LookupKey → ℕ
+count_of key [] = 0
+count_of key (other ∷ keys) = (if is_same_key key other then 1 else 0) + count_of key keys
+
 -- an order of the four keys has each of them once
 abbrev pub IsOrder : List LookupKey → Type 0
-IsOrder keys = (key : LookupKey) → count_by (is_same_key key) keys ≡ 1
+IsOrder keys = (key : LookupKey) → count_of key keys ≡ 1
 
 -- the lines of the keys, joined by line feeds (10)
 abbrev pub lines_of : Lookup → List LookupKey → List ℕ

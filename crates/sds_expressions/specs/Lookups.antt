@@ -9,13 +9,7 @@ use Rattle.sds_expressions.specs.declared.lookup_read.Part.{Part}
 use Rattle.sds_expressions.specs.declared.lookup_read.Part.TheVariants as part
 use Rattle.sds_expressions.specs.declared.lookup_read.Reading.{Reading}
 use Rattle.sds_expressions.specs.ColumnTests.{is_name_character}
-
--- the keys, each with its `=`
-abbrev pub key_text : LookupKey → List ℕ
-key_text Table = codes "LOOKUP_TABLE="
-key_text Column = codes "KEY_COLUMN="
-key_text LookupColumn = codes "LOOKUP_KEY_COLUMN="
-key_text ExternalId = codes "EXTERNAL_ID_COLUMN="
+use Rattle.sds_expressions.specs.LookupForm.{key_text}
 
 -- the name that is read for a key
 abbrev pub found : LookupKey → Reading → Option (List ℕ)

@@ -1,6 +1,7 @@
 ghost use Rattle.std.specs.Prelude.{◌≡◌, ◌==◌, IfOk, if◌then◌else◌};
 ghost use Rattle.std.specs.Str.{bytes_eq, chars};
 ghost use Rattle.std.specs.List.{starts_with};
+ghost use Rattle.sds_expressions.specs.LookupForm.{key_text};
 ghost use Rattle.sds_expressions.specs.Lookups as wanted;
 
 use crate::letters::{begins, characters_of, is_name_character, text_of};
@@ -261,7 +262,7 @@ fn is_open(reading: &Reading, key: LookupKey) -> bool
 }
 
 fn is_text(word: &[char], key: LookupKey) -> bool
-    ensures { result ≡ bytes_eq word.now (wanted.key_text key) }
+    ensures { result ≡ bytes_eq word.now (key_text key) }
 {
     match key {
         LookupKey::Table => word == TABLE.as_slice(),
@@ -272,7 +273,7 @@ fn is_text(word: &[char], key: LookupKey) -> bool
 }
 
 fn begins_text(word: &[char], key: LookupKey) -> bool
-    ensures { result ≡ starts_with (λ a b. a == b) (wanted.key_text key) word.now }
+    ensures { result ≡ starts_with (λ a b. a == b) (key_text key) word.now }
 {
     match key {
         LookupKey::Table => begins(&TABLE, word),

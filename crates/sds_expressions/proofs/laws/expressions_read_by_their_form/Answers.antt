@@ -7,6 +7,12 @@ use Rattle.sds_expressions.proofs.ByForm.{by_form}
 use Rattle.sds_expressions.proofs.ColumnHope.{finish, same, column_bad}
 use Rattle.sds_expressions.proofs.ColumnSound.{sound}
 use Rattle.sds_expressions.proofs.ColumnWhole.{complete}
+use Rattle.sds_types.specs.declared.lookup.Lookup.{Lookup}
+use Rattle.sds_expressions.specs.Lookups as lookup
+use Rattle.sds_expressions.specs.LookupForm.{IsLookupForm}
+use Rattle.sds_expressions.proofs.LookupHope as lookup_hope
+use Rattle.sds_expressions.proofs.LookupSound as lookup_sound
+use Rattle.sds_expressions.proofs.LookupWhole as lookup_whole
 use Rattle.sds_expressions.proofs.laws.expressions_read_by_their_form.Goals as goal
 
 column_says : (text : List ℕ) (tests : List ColumnTest) → (column.tests_of text ≡ Ok tests) ↔ IsColumnForm text tests
@@ -14,5 +20,10 @@ column_says text tests =
     (λ e. sound text tests (value_read column.step finish 0 column.beginning text tests (same text 0 column.beginning ∙ e)),
      λ is. sym (same text 0 column.beginning) ∙ read_value column.step finish 0 column.beginning text tests (complete text tests is))
 
+lookup_says : (text : List ℕ) (value : Lookup) → (lookup.lookup_read text ≡ Ok value) ↔ IsLookupForm text value
+lookup_says text value =
+    (λ e. lookup_sound.sound text value (value_read lookup.step lookup_hope.finish 0 lookup.beginning text value (lookup_hope.same text 0 lookup.beginning ∙ e)),
+     λ is. sym (lookup_hope.same text 0 lookup.beginning) ∙ read_value lookup.step lookup_hope.finish 0 lookup.beginning text value (lookup_whole.complete text value is))
+
 pub returns : goal.returns
-returns c = record { column = by_form column.tests_of IsColumnForm column_says column_bad }
+returns c = record { column = by_form column.tests_of IsColumnForm column_says column_bad; lookup = by_form lookup.lookup_read IsLookupForm lookup_says lookup_hope.lookup_bad }
