@@ -11,3 +11,4 @@ pub mod ColumnWhole
 pub mod ByForm
 pub mod LookupSound
 pub mod LookupWhole
+pub mod SubselectSound

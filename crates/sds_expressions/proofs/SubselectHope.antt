@@ -13,10 +13,11 @@ use Rattle.sds_expressions.specs.declared.subselect_read.Slot.TheVariants as slo
 use Rattle.sds_expressions.proofs.Readings.{IsBadPlace}
 use Rattle.sds_expressions.specs.ColumnTests.{is_name_character}
 use Rattle.sds_expressions.specs.Subselects as choice
+use Rattle.sds_expressions.specs.SubselectForm.{is_spacing}
 use Rattle.sds_expressions.proofs.ColumnHope.{front_is, rest_is}
 use Rattle.sds_expressions.proofs.Readings as readings
 
-abbrev finish : Reading → Option Subselect
+abbrev pub finish : Reading → Option Subselect
 finish reading = choice.choice_at reading.slot reading
 
 abbrev CanEnd : Reading → Type 0
@@ -158,18 +159,18 @@ empty_holds reading empty = subst (HoldsAt reading.slot) (sym empty) (fresh_hold
 
 before_keyword : (reading next : Reading) (c : ℕ) → reading.word ≡ [] → choice.before_keyword reading c ≡ Some next → Holds next
 before_keyword reading next c empty e =
-    branch (choice.is_spacing c) _ _ next (λ _ f. kept (record reading { spaced = true }) next (empty_holds reading empty) f)
+    branch (is_spacing c) _ _ next (λ _ f. kept (record reading { spaced = true }) next (empty_holds reading empty) f)
     (λ f. branch (reading.spaced && choice.begins_keyword reading.slot (to_ascii_lowercase c ∷ [])) _ _ next
     (λ test g. kept (record reading { word = to_ascii_lowercase c ∷ [] }) next (keyword_holds reading.slot (to_ascii_lowercase c ∷ []) (and_parts reading.spaced (choice.begins_keyword reading.slot (to_ascii_lowercase c ∷ [])) test).1) g) (gone next) f) e
 
 before_name : (reading next : Reading) (c : ℕ) → reading.word ≡ [] → choice.takes_name reading.slot ≡ true → choice.before_name reading c ≡ Some next → Holds next
 before_name reading next c empty takes e =
-    branch (choice.is_spacing c) _ _ next (λ _ f. kept (record reading { spaced = true }) next (empty_holds reading empty) f)
+    branch (is_spacing c) _ _ next (λ _ f. kept (record reading { spaced = true }) next (empty_holds reading empty) f)
     (λ f. branch (reading.spaced && is_name_character c) _ _ next (λ _ g. kept (record reading { word = c ∷ [] }) next (name_holds reading.slot (c ∷ []) takes) g) (gone next) f) e
 
 sign : (mark : ℕ) (to : Slot) (reading next : Reading) (c : ℕ) → reading.word ≡ [] → choice.sign mark to reading c ≡ Some next → Holds next
 sign mark to reading next c empty e =
-    branch (choice.is_spacing c) _ _ next (λ _ f. kept reading next (empty_holds reading empty) f)
+    branch (is_spacing c) _ _ next (λ _ f. kept reading next (empty_holds reading empty) f)
     (λ f. branch (c == mark) _ _ next (λ _ g. kept (choice.moved reading to true) next (fresh_holds to) g) (gone next) f) e
 
 fresh_kept : (at : Slot) (reading next : Reading) (c : ℕ) → reading.slot ≡ at → reading.word ≡ [] → choice.fresh_at at reading c ≡ Some next → Holds next
@@ -186,14 +187,14 @@ fresh_kept slot.Where reading next c is empty e = before_keyword reading next c 
 fresh_kept slot.Tested reading next c is empty e = before_name reading next c empty (ap choice.takes_name is) e
 fresh_kept slot.Equals reading next c is empty e = sign 61 slot.Value reading next c empty e
 fresh_kept slot.Value reading next c is empty e =
-    branch (choice.is_spacing c) _ _ next (λ _ f. kept reading next (empty_holds reading empty) f)
+    branch (is_spacing c) _ _ next (λ _ f. kept reading next (empty_holds reading empty) f)
     (λ f. branch (c == 58) _ _ next (λ _ g. kept (choice.moved reading slot.Routed true) next tt g)
     (λ g. branch (c == 39) _ _ next (λ _ h. kept (choice.moved reading slot.Quoted true) next tt h) (gone next) g) f) e
 fresh_kept slot.Routed reading next c is empty e = before_name reading next c empty (ap choice.takes_name is) e
 fresh_kept slot.Quoted reading next c is empty e = before_keyword reading next c empty e
 fresh_kept slot.Quote reading next c is empty e = before_keyword reading next c empty e
 fresh_kept slot.Next reading next c is empty e = branch (c == 41) _ _ next (λ _ f. kept (choice.moved reading slot.Close true) next refl f) (λ f. before_keyword reading next c empty f) e
-fresh_kept slot.Close reading next c is empty e = branch (choice.is_spacing c) _ _ next (λ _ f. kept reading next (empty_holds reading empty) f) (gone next) e
+fresh_kept slot.Close reading next c is empty e = branch (is_spacing c) _ _ next (λ _ f. kept reading next (empty_holds reading empty) f) (gone next) e
 
 outside_kept : (word : List ℕ) (reading next : Reading) (c : ℕ) → reading.word ≡ word → choice.outside word reading c ≡ Some next → Holds next
 outside_kept [] reading next c is e = fresh_kept reading.slot reading next c refl is e
@@ -330,7 +331,7 @@ can_rest at word keyword whole (c ∷ rest) reading w ws is begun e =
     one_more reading next c (keyword.outside reading c is ∙ (ap (λ (x : List ℕ). choice.outside x reading c) begun ∙ (outside ∙ inside))) letter.0
     (can_rest at word keyword whole rest next w (ws ++ c ∷ []) is begun_next longer)
 
-can_begin : (at : Slot) (c : ℕ) (rest : List ℕ) → Keyword at (c ∷ rest) → Whole at (c ∷ rest) → choice.is_spacing c ≡ false
+can_begin : (at : Slot) (c : ℕ) (rest : List ℕ) → Keyword at (c ∷ rest) → Whole at (c ∷ rest) → is_spacing c ≡ false
     → ((reading : Reading) (x : ℕ) → reading.slot ≡ at → reading.word ≡ [] → choice.step reading x ≡ choice.before_keyword reading x)
     → (reading : Reading) → reading.slot ≡ at → reading.word ≡ [] → CanEnd reading
 can_begin at c rest keyword whole letter fresh reading is empty = spaced reading.spaced refl
@@ -498,7 +499,7 @@ end_same : (place : ℕ) (value : Option Subselect) → readings.ended place val
 end_same place None = refl
 end_same place (Some value) = refl
 
-same : (text : List ℕ) (place : ℕ) (reading : Reading) → readings.run choice.step finish place reading text ≡ choice.choice_from place reading text
+pub same : (text : List ℕ) (place : ℕ) (reading : Reading) → readings.run choice.step finish place reading text ≡ choice.choice_from place reading text
 same [] place reading = end_same place (finish reading)
 same (c ∷ cs) place reading = at (choice.step reading c) (λ next. same cs (place + 1) next)
   where

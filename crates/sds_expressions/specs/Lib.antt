@@ -4,6 +4,7 @@ pub mod Computed
 pub mod Forms
 pub mod ColumnForm
 pub mod LookupForm
+pub mod SubselectForm
 pub mod ColumnTests
 pub mod Lookups
 pub mod Subselects

@@ -13,9 +13,7 @@ use Rattle.sds_expressions.specs.declared.subselect_read.Reading.{Reading}
 use Rattle.sds_expressions.specs.declared.subselect_read.Slot.{Slot}
 use Rattle.sds_expressions.specs.declared.subselect_read.Slot.TheVariants as slot
 use Rattle.sds_expressions.specs.ColumnTests.{is_name_character}
-
-abbrev pub is_spacing : ℕ → Bool
-is_spacing c = c == 32 || (c == 9 || (c == 13 || c == 10))
+use Rattle.sds_expressions.specs.SubselectForm.{is_spacing}
 
 -- the keywords that may stand in a slot
 abbrev pub is_keyword : Slot → List ℕ → Bool

@@ -1,5 +1,6 @@
 ghost use Rattle.std.specs.Prelude.{◌≡◌, true, false, IfOk, OnOk, if◌then◌else◌};
 ghost use Rattle.std.specs.Str.{chars};
+ghost use Rattle.sds_expressions.specs.SubselectForm.{is_spacing};
 ghost use Rattle.sds_expressions.specs.Subselects as wanted;
 
 use crate::letters::{begins, characters_of, is_name_character, one, text_of};
@@ -385,7 +386,7 @@ fn node_column(word: &[char]) -> NodeColumn
 }
 
 fn is_spacing(c: char) -> bool
-    ensures { result ≡ wanted.is_spacing c }
+    ensures { result ≡ is_spacing c }
 {
     c == ' ' || c == '\t' || c == '\r' || c == '\n'
 }

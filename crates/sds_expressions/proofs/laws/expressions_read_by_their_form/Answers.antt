@@ -13,6 +13,11 @@ use Rattle.sds_expressions.specs.LookupForm.{IsLookupForm}
 use Rattle.sds_expressions.proofs.LookupHope as lookup_hope
 use Rattle.sds_expressions.proofs.LookupSound as lookup_sound
 use Rattle.sds_expressions.proofs.LookupWhole as lookup_whole
+use Rattle.sds_types.specs.declared.subselect.Subselect.{Subselect}
+use Rattle.sds_expressions.specs.Subselects as choice
+use Rattle.sds_expressions.specs.SubselectForm.{IsSubselectForm}
+use Rattle.sds_expressions.proofs.SubselectHope as choice_hope
+use Rattle.sds_expressions.proofs.SubselectSound as choice_sound
 use Rattle.sds_expressions.proofs.laws.expressions_read_by_their_form.Goals as goal
 
 column_says : (text : List ℕ) (tests : List ColumnTest) → (column.tests_of text ≡ Ok tests) ↔ IsColumnForm text tests
@@ -25,5 +30,10 @@ lookup_says text value =
     (λ e. lookup_sound.sound text value (value_read lookup.step lookup_hope.finish 0 lookup.beginning text value (lookup_hope.same text 0 lookup.beginning ∙ e)),
      λ is. sym (lookup_hope.same text 0 lookup.beginning) ∙ read_value lookup.step lookup_hope.finish 0 lookup.beginning text value (lookup_whole.complete text value is))
 
+choice_says : (text : List ℕ) (value : Subselect) → (choice.subselect_of text ≡ Ok value) ↔ IsSubselectForm text value
+choice_says text value =
+    (λ e. choice_sound.sound text value (value_read choice.step choice_hope.finish 0 choice.beginning text value (choice_hope.same text 0 choice.beginning ∙ e)),
+     λ is. ?)
+
 pub returns : goal.returns
-returns c = record { column = by_form column.tests_of IsColumnForm column_says column_bad; lookup = by_form lookup.lookup_read IsLookupForm lookup_says lookup_hope.lookup_bad }
+returns c = record { column = by_form column.tests_of IsColumnForm column_says column_bad; lookup = by_form lookup.lookup_read IsLookupForm lookup_says lookup_hope.lookup_bad; subselect = by_form choice.subselect_of IsSubselectForm choice_says choice_hope.subselect_bad }
