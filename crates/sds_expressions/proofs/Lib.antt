@@ -12,3 +12,4 @@ pub mod ByForm
 pub mod LookupSound
 pub mod LookupWhole
 pub mod SubselectSound
+pub mod SubselectWhole

@@ -18,6 +18,7 @@ use Rattle.sds_expressions.specs.Subselects as choice
 use Rattle.sds_expressions.specs.SubselectForm.{IsSubselectForm}
 use Rattle.sds_expressions.proofs.SubselectHope as choice_hope
 use Rattle.sds_expressions.proofs.SubselectSound as choice_sound
+use Rattle.sds_expressions.proofs.SubselectWhole as choice_whole
 use Rattle.sds_expressions.proofs.laws.expressions_read_by_their_form.Goals as goal
 
 column_says : (text : List ℕ) (tests : List ColumnTest) → (column.tests_of text ≡ Ok tests) ↔ IsColumnForm text tests
@@ -33,7 +34,7 @@ lookup_says text value =
 choice_says : (text : List ℕ) (value : Subselect) → (choice.subselect_of text ≡ Ok value) ↔ IsSubselectForm text value
 choice_says text value =
     (λ e. choice_sound.sound text value (value_read choice.step choice_hope.finish 0 choice.beginning text value (choice_hope.same text 0 choice.beginning ∙ e)),
-     λ is. ?)
+     λ is. sym (choice_hope.same text 0 choice.beginning) ∙ read_value choice.step choice_hope.finish 0 choice.beginning text value (choice_whole.complete text value is))
 
 pub returns : goal.returns
 returns c = record { column = by_form column.tests_of IsColumnForm column_says column_bad; lookup = by_form lookup.lookup_read IsLookupForm lookup_says lookup_hope.lookup_bad; subselect = by_form choice.subselect_of IsSubselectForm choice_says choice_hope.subselect_bad }
