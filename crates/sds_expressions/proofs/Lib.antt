@@ -13,3 +13,5 @@ pub mod LookupSound
 pub mod LookupWhole
 pub mod SubselectSound
 pub mod SubselectWhole
+pub mod Printing
+pub mod Saying

@@ -5,6 +5,7 @@ pub mod Forms
 pub mod ColumnForm
 pub mod LookupForm
 pub mod SubselectForm
+pub mod Printed
 pub mod ColumnTests
 pub mod Lookups
 pub mod Subselects

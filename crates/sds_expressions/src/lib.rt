@@ -14,7 +14,9 @@ mod tests;
 mod tests_read;
 
 pub use computed::{left_of, multiplier_of, substr_of, value_map_of, variable_of};
-pub use laws::expressions_read_by_their_form;
+pub use laws::{
+    expressions_have_names, expressions_read_by_their_form, printed_expressions_read_back,
+};
 pub use lookup_read::lookup_text;
 pub use numbers::plain_number;
 pub use pieces::{behind, split_at};
