@@ -2,31 +2,31 @@
 use Rattle.std.proofs.Common.{◌≡◌, ℕ, ◌+◌, ◌≤◌, Bool, true, false, ◌&&◌, if◌then◌else◌, List, [], ◌∷◌, ◌++◌, length, Option, Some, None, option_and_then, Result, Ok, Err, refl, sym, ap, ◌∙◌, arith, append_assoc, length-append}
 use Rattle.std.specs.List.{list_all}
 use Rattle.sds_expressions.specs.Forms.{Form, ◌▸◌, AnyOf}
-use Rattle.sds_expressions.proofs.Readings as readings
+use Rattle.sds_expressions.specs.Automaton as automaton
 
 abbrev pub value_of : {R T : Type 0} → (R → ℕ → Option R) → (R → Option T) → R → List ℕ → Option T
 value_of step finish reading [] = finish reading
 value_of step finish reading (c ∷ cs) = option_and_then (λ next. value_of step finish next cs) (step reading c)
 
-pub value_read : {R T : Type 0} (step : R → ℕ → Option R) (finish : R → Option T) (place : ℕ) (reading : R) (text : List ℕ) (value : T) → readings.run step finish place reading text ≡ Ok value → value_of step finish reading text ≡ Some value
+pub value_read : {R T : Type 0} (step : R → ℕ → Option R) (finish : R → Option T) (place : ℕ) (reading : R) (text : List ℕ) (value : T) → automaton.run step finish place reading text ≡ Ok value → value_of step finish reading text ≡ Some value
 value_read {R} {T} step finish place reading [] value e = at (finish reading) e
   where
-    at : (o : Option T) → readings.ended place o ≡ Ok value → o ≡ Some value
+    at : (o : Option T) → automaton.ended place o ≡ Ok value → o ≡ Some value
     at None e = absurd (cc)
     at (Some x) e = cc
 value_read {R} {T} step finish place reading (c ∷ cs) value e = at (step reading c) (λ next. value_read step finish (place + 1) next cs value) e
   where
-    at : (o : Option R) → ((next : R) → readings.run step finish (place + 1) next cs ≡ Ok value → value_of step finish next cs ≡ Some value)
-        → readings.on place (λ next. readings.run step finish (place + 1) next cs) o ≡ Ok value → option_and_then (λ next. value_of step finish next cs) o ≡ Some value
+    at : (o : Option R) → ((next : R) → automaton.run step finish (place + 1) next cs ≡ Ok value → value_of step finish next cs ≡ Some value)
+        → automaton.on place (λ next. automaton.run step finish (place + 1) next cs) o ≡ Ok value → option_and_then (λ next. value_of step finish next cs) o ≡ Some value
     at None more e = absurd (cc)
     at (Some next) more e = more next e
 
-pub read_value : {R T : Type 0} (step : R → ℕ → Option R) (finish : R → Option T) (place : ℕ) (reading : R) (text : List ℕ) (value : T) → value_of step finish reading text ≡ Some value → readings.run step finish place reading text ≡ Ok value
-read_value step finish place reading [] value e = ap (readings.ended place) e
+pub read_value : {R T : Type 0} (step : R → ℕ → Option R) (finish : R → Option T) (place : ℕ) (reading : R) (text : List ℕ) (value : T) → value_of step finish reading text ≡ Some value → automaton.run step finish place reading text ≡ Ok value
+read_value step finish place reading [] value e = ap (automaton.ended place) e
 read_value {R} {T} step finish place reading (c ∷ cs) value e = at (step reading c) (λ next. read_value step finish (place + 1) next cs value) e
   where
-    at : (o : Option R) → ((next : R) → value_of step finish next cs ≡ Some value → readings.run step finish (place + 1) next cs ≡ Ok value)
-        → option_and_then (λ next. value_of step finish next cs) o ≡ Some value → readings.on place (λ next. readings.run step finish (place + 1) next cs) o ≡ Ok value
+    at : (o : Option R) → ((next : R) → value_of step finish next cs ≡ Some value → automaton.run step finish (place + 1) next cs ≡ Ok value)
+        → option_and_then (λ next. value_of step finish next cs) o ≡ Some value → automaton.on place (λ next. automaton.run step finish (place + 1) next cs) o ≡ Ok value
     at None more e = absurd (cc)
     at (Some next) more e = more next e
 

@@ -8,17 +8,17 @@ use Rattle.sds_types.specs.declared.column_test.ColumnTest.{ColumnTest}
 use Rattle.sds_types.specs.declared.column_test.Operand.{Operand}
 use Rattle.sds_types.specs.declared.column_test.Operand.TheVariants.{NodeId, ExternalId, NodeGroupId, Null, Text}
 use Rattle.sds_value.specs.Names.{is_name_text, is_name_character}
-use Rattle.sds_expressions.specs.declared.tests_read.Part.{Part}
-use Rattle.sds_expressions.specs.declared.tests_read.Part.TheVariants as part
-use Rattle.sds_expressions.specs.declared.tests_read.Reading.{Reading}
-use Rattle.sds_expressions.specs.ColumnTests as column
+use Rattle.sds_expressions.specs.declared.column_router.Part.{Part}
+use Rattle.sds_expressions.specs.declared.column_router.Part.TheVariants as part
+use Rattle.sds_expressions.specs.declared.column_router.Reading.{Reading}
+use Rattle.sds_expressions.specs.ColumnRouter as column
 use Rattle.sds_expressions.specs.Forms.{Form, ◌▸◌, Exactly, AnyOf}
-use Rattle.sds_expressions.specs.ColumnForm.{is_space, NameOf, SignOf, is_bare, doubled, quoted, ValueOf, TestOf, IsJoint, TestsOf, IsEnd, IsColumnForm}
+use Rattle.sds_expressions.specs.ColumnForm.{is_space, begins_old, is_bare_character, NameOf, SignOf, is_bare, doubled, quoted, ValueOf, TestOf, IsJoint, TestsOf, IsEnd, IsColumnForm}
 use Rattle.sds_expressions.proofs.Accepting.{value_of, branch, in_front, grouped, rest_le}
-use Rattle.sds_expressions.proofs.ColumnHope.{finish, old_name}
+use Rattle.sds_expressions.proofs.ColumnHope.{old_name}
 
 abbrev pub accept : Reading → List ℕ → Option (List ColumnTest)
-accept reading text = value_of column.step finish reading text
+accept reading text = value_of column.step column.finish reading text
 
 abbrev pub on : List ℕ → Reading → Option (List ColumnTest)
 on text reading = accept reading text
@@ -48,7 +48,7 @@ after reading operand [] = Some (tested reading operand).tests
 after reading operand (c ∷ cs) = option_and_then (on cs) (column.ended reading c (Some operand))
 
 short_one : (c : ℕ) → column.is_short (c ∷ []) ≡ true
-short_one c = at (column.asks_old (c ∷ []))
+short_one c = at (begins_old (c ∷ []))
   where
     at : (t : Bool) → nat_le (length (if t then drop 4 (c ∷ []) else c ∷ [])) 50 ≡ true
     at true = refl
@@ -89,16 +89,16 @@ to_named r n (c ∷ cs) v short e =
         }
 
 -- what a whole name names
-name_of : (word : List ℕ) → list_all is_name_character word ≡ true → column.is_short word ≡ true → column.is_whole word ≡ true → NameOf (column.asks_old word) (column.column_name word) word
-name_of word all short whole = at (column.asks_old word) refl
+name_of : (word : List ℕ) → list_all is_name_character word ≡ true → column.is_short word ≡ true → column.is_whole word ≡ true → NameOf (begins_old word) (column.column_name word) word
+name_of word all short whole = at (begins_old word) refl
   where
-    parts : (t : Bool) → column.asks_old word ≡ t → column.column_name word ≡ (if t then drop 4 word else word)
+    parts : (t : Bool) → begins_old word ≡ t → column.column_name word ≡ (if t then drop 4 word else word)
     parts t e = rw e refl
 
     text : (name : List ℕ) → list_all is_name_character name ≡ true → nat_le (length name) 50 ≡ true → nat_le 1 (length name) ≡ true → is_name_text name ≡ true
     text name all short whole = rw (whole, short, all) refl
 
-    at : (t : Bool) → column.asks_old word ≡ t → NameOf (column.asks_old word) (column.column_name word) word
+    at : (t : Bool) → begins_old word ≡ t → NameOf (begins_old word) (column.column_name word) word
     at true e =
         let old : word ≡ codes "OLD_" ++ drop 4 word = old_name word e in
         let good : list_all is_name_character (drop 4 word) ≡ true = subst (λ w. list_all is_name_character w ≡ true) old all in
@@ -124,16 +124,16 @@ pub record BareRead (r : Reading) (t cs : List ℕ) (v : List ColumnTest) : Type
   pub word : List ℕ
   pub rest : List ℕ
   pub is : cs ≡ word ++ rest
-  pub all : list_all column.is_bare_character word ≡ true
+  pub all : list_all is_bare_character word ≡ true
   pub more : after (with_text r (t ++ word) part.Sign) (column.bare_operand (t ++ word)) rest ≡ Some v
 
 to_bare : (r : Reading) (t cs : List ℕ) (v : List ColumnTest) → accept (with_text r t part.Bare) cs ≡ Some v → BareRead r t cs v
 to_bare r t [] v e = record { word = []; rest = []; is = refl; all = refl; more = rw (append-nil t) e }
 to_bare r t (c ∷ cs) v e =
-    branch (on cs) v (column.is_bare_character c) _ _ (λ u f. longer u (to_bare r (t ++ c ∷ []) cs v f))
+    branch (on cs) v (is_bare_character c) _ _ (λ u f. longer u (to_bare r (t ++ c ∷ []) cs v f))
     (λ u f. record { word = []; rest = c ∷ cs; is = refl; all = refl; more = rw (append-nil t) f }) e
   where
-    longer : column.is_bare_character c ≡ true → BareRead r (t ++ c ∷ []) cs v → BareRead r t (c ∷ cs) v
+    longer : is_bare_character c ≡ true → BareRead r (t ++ c ∷ []) cs v → BareRead r t (c ∷ cs) v
     longer u q =
         let same : (t ++ c ∷ []) ++ q.word ≡ t ++ (c ∷ q.word) = append_assoc t (c ∷ []) q.word in
         record { word = c ∷ q.word; rest = q.rest; is = ap (λ xs. c ∷ xs) q.is; all = rw u q.all; more = subst (λ w. after (with_text r w part.Sign) (column.bare_operand w) q.rest ≡ Some v) same q.more }
@@ -211,7 +211,7 @@ word_of word operand e = at (bytes_eq word (codes "NODE_ID")) (bytes_eq word (co
 pub some_length : (c : ℕ) (cs : List ℕ) → nat_le 1 (length (c ∷ cs)) ≡ true
 some_length c cs = grind (arith, nat_tests)
 
-bare_of : (c : ℕ) (word : List ℕ) → column.is_bare_character c ≡ true → list_all column.is_bare_character word ≡ true → ValueOf (column.bare_operand (c ∷ word)) (c ∷ word)
+bare_of : (c : ℕ) (word : List ℕ) → is_bare_character c ≡ true → list_all is_bare_character word ≡ true → ValueOf (column.bare_operand (c ∷ word)) (c ∷ word)
 bare_of c word first all = at (bytes_eq (c ∷ word) (codes "NULL")) refl
   where
     good : is_bare (c ∷ word) ≡ true
@@ -231,7 +231,7 @@ to_value r (c ∷ cs) v e =
     branch (on cs) v (c == 32) _ _ (λ t f. in_front is_space _ c cs t (to_value r cs v f))
     (λ t f. branch (on cs) v (c == 39) _ _ (λ u g. quote (eqb-true c 39 u) (to_quoted r [] cs v g))
     (λ u g. branch (on cs) v (c == 58) _ _ (λ w h. word (eqb-true c 58 w) (to_word r [] cs v h))
-    (λ w h. branch (on cs) v (column.is_bare_character c) _ _ (λ x i. bare x (to_bare r (c ∷ []) cs v i)) (λ x i. absurd (cc)) h) g) f) e
+    (λ w h. branch (on cs) v (is_bare_character c) _ _ (λ x i. bare x (to_bare r (c ∷ []) cs v i)) (λ x i. absurd (cc)) h) g) f) e
   where
     quote : c ≡ 39 → QuotedRead r [] cs v → (AnyOf is_space ▸ AfterValue r v) (c ∷ cs)
     quote is q =
@@ -241,7 +241,7 @@ to_value r (c ∷ cs) v e =
     word : c ≡ 58 → WordRead r [] cs v → (AnyOf is_space ▸ AfterValue r v) (c ∷ cs)
     word is q = ([], c ∷ cs, refl, refl, (q.operand, q.word, (58 ∷ q.word, q.rest, rw (is, q.is) refl, word_of q.word q.operand q.means, q.more)))
 
-    bare : column.is_bare_character c ≡ true → BareRead r (c ∷ []) cs v → (AnyOf is_space ▸ AfterValue r v) (c ∷ cs)
+    bare : is_bare_character c ≡ true → BareRead r (c ∷ []) cs v → (AnyOf is_space ▸ AfterValue r v) (c ∷ cs)
     bare good q = ([], c ∷ cs, refl, refl, (column.bare_operand (c ∷ q.word), c ∷ q.word, (c ∷ q.word, q.rest, ap (λ xs. c ∷ xs) q.is, bare_of c q.word good q.all, q.more)))
 
 -- spaces behind a value, and what joins the next test, or the end
@@ -292,7 +292,7 @@ one_test r cs v e =
     let f = to_value (signed (named r b.word) c.4.0) d.1 v d.4 in
     let g = f.4.2 in
     let h = to_tail (with_text (signed (named r b.word) c.4.0) f.4.1 part.Sign) f.4.0 g.1 v g.4 in
-    let test : ColumnTest = record { name = column.column_name b.word; old = column.asks_old b.word; differs = c.4.0; operand = f.4.0 } in
+    let test : ColumnTest = record { name = column.column_name b.word; old = begins_old b.word; differs = c.4.0; operand = f.4.0 } in
     let last = tested (with_text (signed (named r b.word) c.4.0) f.4.1 part.Sign) f.4.0 in
     record {
       test = test;

@@ -8,12 +8,12 @@ use Rattle.sds_types.specs.declared.column_test.ColumnTest.{ColumnTest}
 use Rattle.sds_types.specs.declared.column_test.Operand.{Operand}
 use Rattle.sds_types.specs.declared.column_test.Operand.TheVariants.{NodeId, ExternalId, NodeGroupId, Null, Text}
 use Rattle.sds_value.specs.Names.{is_name_text, is_name_character}
-use Rattle.sds_expressions.specs.declared.tests_read.Part.{Part}
-use Rattle.sds_expressions.specs.declared.tests_read.Part.TheVariants as part
-use Rattle.sds_expressions.specs.declared.tests_read.Reading.{Reading}
-use Rattle.sds_expressions.specs.ColumnTests as column
+use Rattle.sds_expressions.specs.declared.column_router.Part.{Part}
+use Rattle.sds_expressions.specs.declared.column_router.Part.TheVariants as part
+use Rattle.sds_expressions.specs.declared.column_router.Reading.{Reading}
+use Rattle.sds_expressions.specs.ColumnRouter as column
 use Rattle.sds_expressions.specs.Forms.{Form, ◌▸◌, Exactly, AnyOf}
-use Rattle.sds_expressions.specs.ColumnForm.{is_space, NameOf, SignOf, is_bare, doubled, quoted, ValueOf, TestOf, IsJoint, TestsOf, IsEnd, IsColumnForm}
+use Rattle.sds_expressions.specs.ColumnForm.{is_space, begins_old, is_bare_character, NameOf, SignOf, is_bare, doubled, quoted, ValueOf, TestOf, IsJoint, TestsOf, IsEnd, IsColumnForm}
 use Rattle.sds_expressions.proofs.ColumnSound.{accept, on, before, in_name, named, signed, with_text, tested, after}
 
 -- spaces change nothing before a name, a sign and a value
@@ -38,7 +38,7 @@ record Named (word : List ℕ) (old : Bool) (name : List ℕ) : Type 0 where
   all : list_all is_name_character word ≡ true
   short : column.is_short word ≡ true
   whole : column.is_whole word ≡ true
-  asks : column.asks_old word ≡ old
+  asks : begins_old word ≡ old
   is : column.column_name word ≡ name
 
 named_word : (old : Bool) (name word : List ℕ) → NameOf old name word → Named word old name
@@ -54,22 +54,22 @@ named_word false name word (is, good, new) =
 -- a prefix of a short name is short
 short_prefix : (a b : List ℕ) → column.is_short (a ++ b) ≡ true → column.is_short a ≡ true
 short_prefix [] b e = refl
-short_prefix (x ∷ []) b e = at (column.asks_old (x ∷ []))
+short_prefix (x ∷ []) b e = at (begins_old (x ∷ []))
   where
     at : (t : Bool) → nat_le (length (if t then drop 4 (x ∷ []) else x ∷ [])) 50 ≡ true
     at true = refl
     at false = refl
-short_prefix (x ∷ y ∷ []) b e = at (column.asks_old (x ∷ y ∷ []))
+short_prefix (x ∷ y ∷ []) b e = at (begins_old (x ∷ y ∷ []))
   where
     at : (t : Bool) → nat_le (length (if t then drop 4 (x ∷ y ∷ []) else x ∷ y ∷ [])) 50 ≡ true
     at true = refl
     at false = refl
-short_prefix (x ∷ y ∷ z ∷ []) b e = at (column.asks_old (x ∷ y ∷ z ∷ []))
+short_prefix (x ∷ y ∷ z ∷ []) b e = at (begins_old (x ∷ y ∷ z ∷ []))
   where
     at : (t : Bool) → nat_le (length (if t then drop 4 (x ∷ y ∷ z ∷ []) else x ∷ y ∷ z ∷ [])) 50 ≡ true
     at true = refl
     at false = refl
-short_prefix (x ∷ y ∷ z ∷ w ∷ a) b e = at (column.asks_old (x ∷ y ∷ z ∷ w ∷ a)) e
+short_prefix (x ∷ y ∷ z ∷ w ∷ a) b e = at (begins_old (x ∷ y ∷ z ∷ w ∷ a)) e
   where
     longer : nat_le (length (x ∷ y ∷ z ∷ w ∷ (a ++ b))) 50 ≡ true → nat_le (length (x ∷ y ∷ z ∷ w ∷ a)) 50 ≡ true
     longer f = let l : length (a ++ b) ≡ length a + length b = length-append a b in grind (arith, nat_tests)
@@ -98,7 +98,7 @@ space_no_name c e = at (c == 32) refl
     at false f = refl
 
 short_one : (c : ℕ) → column.is_short (c ∷ []) ≡ true
-short_one c = at (column.asks_old (c ∷ []))
+short_one c = at (begins_old (c ∷ []))
   where
     at : (t : Bool) → nat_le (length (if t then drop 4 (c ∷ []) else c ∷ [])) 50 ≡ true
     at true = refl
@@ -138,24 +138,24 @@ bare_end r t rest (inl e) = rw e refl
 bare_end r t rest (inr (inl (cs, e))) = rw e refl
 bare_end r t rest (inr (inr (cs, e))) = rw e refl
 
-over_bare : (r : Reading) (t a rest : List ℕ) → list_all column.is_bare_character a ≡ true → accept (with_text r t part.Bare) (a ++ rest) ≡ accept (with_text r (t ++ a) part.Bare) rest
+over_bare : (r : Reading) (t a rest : List ℕ) → list_all is_bare_character a ≡ true → accept (with_text r t part.Bare) (a ++ rest) ≡ accept (with_text r (t ++ a) part.Bare) rest
 over_bare r t [] rest all = ap (λ w. accept (with_text r w part.Bare) rest) (sym (append-nil t))
 over_bare r t (c ∷ cs) rest all =
-    let (here, more) = and_parts (column.is_bare_character c) (list_all column.is_bare_character cs) all in
+    let (here, more) = and_parts (is_bare_character c) (list_all is_bare_character cs) all in
     rw here (over_bare r (t ++ c ∷ []) cs rest more ∙ ap (λ w. accept (with_text r w part.Bare) rest) (append_assoc t (c ∷ []) cs))
 
-no_bare : (c d : ℕ) → column.is_bare_character d ≡ false → column.is_bare_character c ≡ true → (c == d) ≡ false
+no_bare : (c d : ℕ) → is_bare_character d ≡ false → is_bare_character c ≡ true → (c == d) ≡ false
 no_bare c d g e = at (c == d) refl
   where
     at : (t : Bool) → (c == d) ≡ t → t ≡ false
-    at true f = let h : column.is_bare_character d ≡ true = subst (λ x. column.is_bare_character x ≡ true) (eqb-true c d f) e in absurd (cc)
+    at true f = let h : is_bare_character d ≡ true = subst (λ x. is_bare_character x ≡ true) (eqb-true c d f) e in absurd (cc)
     at false f = refl
 
 bare_read : (r : Reading) (word rest : List ℕ) → is_bare word ≡ true → Closed rest → accept (record r { part = part.Sign }) (word ++ rest) ≡ after (with_text r word part.Sign) (column.bare_operand word) rest
 bare_read r [] rest good closed = let none : false ≡ true = good in absurd (cc)
 bare_read r (c ∷ cs) rest good closed =
     let all = (and_parts (nat_le 1 (length (c ∷ cs))) _ good).1 in
-    let (here, more) = and_parts (column.is_bare_character c) (list_all column.is_bare_character cs) all in
+    let (here, more) = and_parts (is_bare_character c) (list_all is_bare_character cs) all in
     rw (no_bare c 32 refl here, no_bare c 39 refl here, no_bare c 58 refl here, here) (over_bare r (c ∷ []) cs rest more ∙ bare_end r (c ∷ cs) rest closed)
 
 quote_end : (r : Reading) (t rest : List ℕ) → Closed rest → accept (with_text r t part.Quote) rest ≡ after (with_text r t part.Sign) (Text t) rest

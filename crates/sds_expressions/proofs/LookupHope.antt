@@ -8,29 +8,26 @@ use Rattle.std.proofs.Math.Utf8.{scalar}
 use Rattle.std.specs.List.{starts_with}
 use Rattle.std.specs.Str.{all_scalars, bytes_eq}
 use Rattle.sds_types.specs.declared.lookup.Lookup.{Lookup}
-use Rattle.sds_expressions.specs.declared.lookup_read.LookupKey.{LookupKey}
-use Rattle.sds_expressions.specs.declared.lookup_read.LookupKey.TheVariants.{Table, Column, LookupColumn, ExternalId}
-use Rattle.sds_expressions.specs.declared.lookup_read.Part.{Part}
-use Rattle.sds_expressions.specs.declared.lookup_read.Part.TheVariants as part
-use Rattle.sds_expressions.specs.declared.lookup_read.Reading.{Reading}
+use Rattle.sds_expressions.specs.declared.lookup_router.LookupKey.{LookupKey}
+use Rattle.sds_expressions.specs.declared.lookup_router.LookupKey.TheVariants.{Table, Column, LookupColumn, ExternalId}
+use Rattle.sds_expressions.specs.declared.lookup_router.Part.{Part}
+use Rattle.sds_expressions.specs.declared.lookup_router.Part.TheVariants as part
+use Rattle.sds_expressions.specs.declared.lookup_router.Reading.{Reading}
 use Rattle.sds_expressions.proofs.Readings.{IsBadPlace}
-use Rattle.sds_expressions.specs.ColumnTests.{is_name_character}
-use Rattle.sds_expressions.specs.Lookups as lookup
+use Rattle.sds_value.specs.Names.{is_name_character}
+use Rattle.sds_expressions.specs.LookupRouter as lookup
 use Rattle.sds_expressions.specs.LookupForm.{key_text}
 use Rattle.sds_expressions.proofs.ColumnHope.{front_is, rest_is, back_scalars}
 use Rattle.sds_expressions.proofs.Readings as readings
 
-abbrev pub finish : Reading → Option Lookup
-finish reading = lookup.lookup_at reading.part reading
-
 abbrev CanEnd : Reading → Type 0
-CanEnd reading = readings.CanEnd lookup.step finish reading
+CanEnd reading = readings.CanEnd lookup.step lookup.finish reading
 
-done : (reading : Reading) (value : Lookup) → finish reading ≡ Some value → CanEnd reading
-done reading value is = readings.done lookup.step finish reading value is
+done : (reading : Reading) (value : Lookup) → lookup.finish reading ≡ Some value → CanEnd reading
+done reading value is = readings.done lookup.step lookup.finish reading value is
 
 one_more : (reading next : Reading) (c : ℕ) → lookup.step reading c ≡ Some next → scalar c ≡ true → CanEnd next → CanEnd reading
-one_more reading next c is good can = readings.one_more lookup.step finish reading next c is good can
+one_more reading next c is good can = readings.one_more lookup.step lookup.finish reading next c is good can
 
 -- before a name stands a proper front of a key whose line is still to come; behind the last line all four names are there
 record InKey (reading : Reading) : Type 0 where
@@ -289,7 +286,7 @@ written most behind reading w ws is word few = at (lookup.lookup_of (lookup.with
   where
     at : (value : Option Lookup) → lookup.lookup_of (lookup.with_line reading.key reading reading.word) ≡ value → CanEnd reading
     at (Some value) e =
-        let ends : finish reading ≡ lookup.last_line reading reading.word = ap (λ (at : Part). lookup.lookup_at at reading) is in
+        let ends : lookup.finish reading ≡ lookup.last_line reading reading.word = ap (λ (at : Part). lookup.lookup_at at reading) is in
         let last : lookup.last_line reading reading.word ≡ lookup.last_line reading (w ∷ ws) = ap (lookup.last_line reading) word in
         let line : lookup.lookup_of (lookup.with_line reading.key reading reading.word) ≡ lookup.last_line reading (w ∷ ws) = ap (λ (x : List ℕ). lookup.lookup_of (lookup.with_line reading.key reading x)) word in
         done reading value (ends ∙ (last ∙ (sym line ∙ e)))
@@ -326,22 +323,9 @@ can_at part.Ended reading is holds = done reading holds.0 (rw is holds.1)
 can : (reading : Reading) → Holds reading → CanEnd reading
 can reading holds = can_at reading.part reading refl holds
 
--- the reading of the definition
-end_same : (place : ℕ) (value : Option Lookup) → readings.ended place value ≡ lookup.end_of place value
-end_same place None = refl
-end_same place (Some value) = refl
-
-pub same : (text : List ℕ) (place : ℕ) (reading : Reading) → readings.run lookup.step finish place reading text ≡ lookup.lookup_from place reading text
-same [] place reading = end_same place (finish reading)
-same (c ∷ cs) place reading = at (lookup.step reading c) (λ next. same cs (place + 1) next)
-  where
-    at : (o : Option Reading) → ((next : Reading) → readings.run lookup.step finish (place + 1) next cs ≡ lookup.lookup_from (place + 1) next cs)
-        → ◌≡◌ {A = Result (Lookup) ℕ} (readings.on place (λ next. readings.run lookup.step finish (place + 1) next cs) o) (elim o [ None ↦ Err place | Some next ↦ lookup.lookup_from (place + 1) next cs ])
-    at None more = refl
-    at (Some next) more = more next
-
+-- the first bad place
 at_first : Holds lookup.beginning
 at_first = record { key = Table; more = 76; rest = drop 1 (codes "LOOKUP_TABLE="); still = refl; is = refl }
 
 pub lookup_bad : (text : List ℕ) (place : ℕ) → lookup.lookup_read text ≡ Err place → IsBadPlace lookup.lookup_read text place
-lookup_bad text place is = readings.first lookup.step finish lookup.lookup_read lookup.beginning (λ text. same text 0 lookup.beginning) Holds keeps can at_first text place is
+lookup_bad text place is = readings.first lookup.step lookup.finish lookup.lookup_read lookup.beginning (λ text. refl) Holds keeps can at_first text place is

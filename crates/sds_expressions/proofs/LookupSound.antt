@@ -6,18 +6,17 @@ use Rattle.std.proofs.lemmas.Slice.Eq.{bytes_eq-Decides}
 use Rattle.std.specs.List.{list_all}
 use Rattle.sds_types.specs.declared.lookup.Lookup.{Lookup}
 use Rattle.sds_value.specs.Names.{is_name_text, is_name_character}
-use Rattle.sds_expressions.specs.declared.lookup_read.LookupKey.{LookupKey}
-use Rattle.sds_expressions.specs.declared.lookup_read.LookupKey.TheVariants.{Table, Column, LookupColumn, ExternalId}
-use Rattle.sds_expressions.specs.declared.lookup_read.Part.{Part}
-use Rattle.sds_expressions.specs.declared.lookup_read.Part.TheVariants as part
-use Rattle.sds_expressions.specs.declared.lookup_read.Reading.{Reading}
-use Rattle.sds_expressions.specs.Lookups as lookup
+use Rattle.sds_expressions.specs.declared.lookup_router.LookupKey.{LookupKey}
+use Rattle.sds_expressions.specs.declared.lookup_router.LookupKey.TheVariants.{Table, Column, LookupColumn, ExternalId}
+use Rattle.sds_expressions.specs.declared.lookup_router.Part.{Part}
+use Rattle.sds_expressions.specs.declared.lookup_router.Part.TheVariants as part
+use Rattle.sds_expressions.specs.declared.lookup_router.Reading.{Reading}
+use Rattle.sds_expressions.specs.LookupRouter as lookup
 use Rattle.sds_expressions.specs.LookupForm.{key_text, name_for, is_same_key, count_of, IsOrder, lines_of, HasNames, IsLookupForm}
 use Rattle.sds_expressions.proofs.Accepting.{value_of, branch, rest_le}
-use Rattle.sds_expressions.proofs.LookupHope.{finish}
 
 abbrev pub accept : Reading → List ℕ → Option Lookup
-accept reading text = value_of lookup.step finish reading text
+accept reading text = value_of lookup.step lookup.finish reading text
 
 abbrev pub on : List ℕ → Reading → Option Lookup
 on text reading = accept reading text

@@ -5,11 +5,11 @@ use Rattle.std.proofs.lemmas.Bool.Decides.{nat_tests}
 use Rattle.std.specs.List.{list_all}
 use Rattle.sds_types.specs.declared.lookup.Lookup.{Lookup}
 use Rattle.sds_value.specs.Names.{is_name_text, is_name_character}
-use Rattle.sds_expressions.specs.declared.lookup_read.LookupKey.{LookupKey}
-use Rattle.sds_expressions.specs.declared.lookup_read.LookupKey.TheVariants.{Table, Column, LookupColumn, ExternalId}
-use Rattle.sds_expressions.specs.declared.lookup_read.Part.TheVariants as part
-use Rattle.sds_expressions.specs.declared.lookup_read.Reading.{Reading}
-use Rattle.sds_expressions.specs.Lookups as lookup
+use Rattle.sds_expressions.specs.declared.lookup_router.LookupKey.{LookupKey}
+use Rattle.sds_expressions.specs.declared.lookup_router.LookupKey.TheVariants.{Table, Column, LookupColumn, ExternalId}
+use Rattle.sds_expressions.specs.declared.lookup_router.Part.TheVariants as part
+use Rattle.sds_expressions.specs.declared.lookup_router.Reading.{Reading}
+use Rattle.sds_expressions.specs.LookupRouter as lookup
 use Rattle.sds_expressions.specs.LookupForm.{key_text, name_for, is_same_key, count_of, IsOrder, lines_of, HasNames, IsLookupForm}
 use Rattle.sds_expressions.proofs.LookupHope.{whole_key, not_whole, begins_key, key_head}
 use Rattle.sds_expressions.proofs.LookupSound.{accept, on, in_key, in_name, line, after, same_key, own_key, line_open, line_found, key_open, Fits, waits}

@@ -12,8 +12,8 @@ use Rattle.sds_types.specs.declared.subselect.NodeColumn.{NodeColumn}
 use Rattle.sds_types.specs.declared.subselect.NodeColumn.TheVariants as node
 use Rattle.sds_types.specs.declared.subselect.Subselect.{Subselect}
 use Rattle.sds_value.specs.Names.{is_name_text}
-use Rattle.sds_expressions.specs.declared.lookup_read.LookupKey.{LookupKey}
-use Rattle.sds_expressions.specs.declared.lookup_read.LookupKey.TheVariants.{Table, Column, LookupColumn, ExternalId}
+use Rattle.sds_expressions.specs.declared.lookup_router.LookupKey.{LookupKey}
+use Rattle.sds_expressions.specs.declared.lookup_router.LookupKey.TheVariants.{Table, Column, LookupColumn, ExternalId}
 use Rattle.sds_expressions.specs.Forms.{Form, ◌▸◌, Exactly, AnyOf, Name}
 use Rattle.sds_expressions.specs.ColumnForm.{begins_old, quoted, NameOf, SignOf, TestOf, TestsOf, IsColumnForm}
 use Rattle.sds_expressions.specs.ColumnForm as column

@@ -7,27 +7,24 @@ use Rattle.std.proofs.Math.Utf8.{scalar}
 use Rattle.std.specs.Char.{to_ascii_lowercase}
 use Rattle.sds_types.specs.declared.subselect.Compared.TheVariants.{Routed, Text}
 use Rattle.sds_types.specs.declared.subselect.Subselect.{Subselect}
-use Rattle.sds_expressions.specs.declared.subselect_read.Reading.{Reading}
-use Rattle.sds_expressions.specs.declared.subselect_read.Slot.{Slot}
-use Rattle.sds_expressions.specs.declared.subselect_read.Slot.TheVariants as slot
+use Rattle.sds_expressions.specs.declared.subselect_router.Reading.{Reading}
+use Rattle.sds_expressions.specs.declared.subselect_router.Slot.{Slot}
+use Rattle.sds_expressions.specs.declared.subselect_router.Slot.TheVariants as slot
 use Rattle.sds_expressions.proofs.Readings.{IsBadPlace}
-use Rattle.sds_expressions.specs.ColumnTests.{is_name_character}
-use Rattle.sds_expressions.specs.Subselects as choice
+use Rattle.sds_value.specs.Names.{is_name_character}
+use Rattle.sds_expressions.specs.SubselectRouter as choice
 use Rattle.sds_expressions.specs.SubselectForm.{is_spacing}
 use Rattle.sds_expressions.proofs.ColumnHope.{front_is, rest_is}
 use Rattle.sds_expressions.proofs.Readings as readings
 
-abbrev pub finish : Reading → Option Subselect
-finish reading = choice.choice_at reading.slot reading
-
 abbrev CanEnd : Reading → Type 0
-CanEnd reading = readings.CanEnd choice.step finish reading
+CanEnd reading = readings.CanEnd choice.step choice.finish reading
 
-done : (reading : Reading) (value : Subselect) → finish reading ≡ Some value → CanEnd reading
-done reading value is = readings.done choice.step finish reading value is
+done : (reading : Reading) (value : Subselect) → choice.finish reading ≡ Some value → CanEnd reading
+done reading value is = readings.done choice.step choice.finish reading value is
 
 one_more : (reading next : Reading) (c : ℕ) → choice.step reading c ≡ Some next → scalar c ≡ true → CanEnd next → CanEnd reading
-one_more reading next c is good can = readings.one_more choice.step finish reading next c is good can
+one_more reading next c is good can = readings.one_more choice.step choice.finish reading next c is good can
 
 -- at a keyword stands the front of one, and at a sign stands nothing
 abbrev HoldsAt : Slot → List ℕ → Type 0
@@ -494,19 +491,6 @@ can_at slot.Close reading is holds = can_close reading is
 can : (reading : Reading) → Holds reading → CanEnd reading
 can reading holds = can_at reading.slot reading refl holds
 
--- the reading of the definition
-end_same : (place : ℕ) (value : Option Subselect) → readings.ended place value ≡ choice.end_of place value
-end_same place None = refl
-end_same place (Some value) = refl
-
-pub same : (text : List ℕ) (place : ℕ) (reading : Reading) → readings.run choice.step finish place reading text ≡ choice.choice_from place reading text
-same [] place reading = end_same place (finish reading)
-same (c ∷ cs) place reading = at (choice.step reading c) (λ next. same cs (place + 1) next)
-  where
-    at : (o : Option Reading) → ((next : Reading) → readings.run choice.step finish (place + 1) next cs ≡ choice.choice_from (place + 1) next cs)
-        → ◌≡◌ {A = Result Subselect ℕ} (readings.on place (λ next. readings.run choice.step finish (place + 1) next cs) o) (elim o [ None ↦ Err place | Some next ↦ choice.choice_from (place + 1) next cs ])
-    at None more = refl
-    at (Some next) more = more next
-
+-- the first bad place
 pub subselect_bad : (text : List ℕ) (place : ℕ) → choice.subselect_of text ≡ Err place → IsBadPlace choice.subselect_of text place
-subselect_bad text place is = readings.first choice.step finish choice.subselect_of choice.beginning (λ text. same text 0 choice.beginning) Holds keeps can refl text place is
+subselect_bad text place is = readings.first choice.step choice.finish choice.subselect_of choice.beginning (λ text. refl) Holds keeps can refl text place is

@@ -12,18 +12,17 @@ use Rattle.sds_types.specs.declared.subselect.NodeColumn.{NodeColumn}
 use Rattle.sds_types.specs.declared.subselect.NodeColumn.TheVariants.{ExternalId, NodeId}
 use Rattle.sds_types.specs.declared.subselect.Subselect.{Subselect}
 use Rattle.sds_value.specs.Names.{is_name_text, is_name_character}
-use Rattle.sds_expressions.specs.declared.subselect_read.Reading.{Reading}
-use Rattle.sds_expressions.specs.declared.subselect_read.Slot.{Slot}
-use Rattle.sds_expressions.specs.declared.subselect_read.Slot.TheVariants as slot
-use Rattle.sds_expressions.specs.Subselects as choice
+use Rattle.sds_expressions.specs.declared.subselect_router.Reading.{Reading}
+use Rattle.sds_expressions.specs.declared.subselect_router.Slot.{Slot}
+use Rattle.sds_expressions.specs.declared.subselect_router.Slot.TheVariants as slot
+use Rattle.sds_expressions.specs.SubselectRouter as choice
 use Rattle.sds_expressions.specs.Forms.{Form, ◌▸◌, Exactly, AnyOf, Name}
 use Rattle.sds_expressions.specs.ColumnForm.{doubled, quoted}
 use Rattle.sds_expressions.specs.SubselectForm.{is_spacing, Spacing, Gap, Keyword, keyword_of, ValueOf, ConditionOf, SpacingAfter, ConditionsOf, IsSubselectForm}
 use Rattle.sds_expressions.proofs.Accepting.{value_of, branch, in_front, grouped}
-use Rattle.sds_expressions.proofs.SubselectHope.{finish}
 
 abbrev pub accept : Reading → List ℕ → Option Subselect
-accept reading text = value_of choice.step finish reading text
+accept reading text = value_of choice.step choice.finish reading text
 
 abbrev pub on : List ℕ → Reading → Option Subselect
 on text reading = accept reading text
@@ -49,7 +48,7 @@ pub record IsWordSlot (at : Slot) : Type 0 where
   pub outside : (reading : Reading) (c : ℕ) → choice.step_at at reading c ≡ choice.outside reading.word reading c
   pub unended : (reading : Reading) → choice.choice_at at reading ≡ None
   pub goes_on : (reading : Reading) (c : ℕ) → choice.step (choice.finished_at at reading) c ≡ choice.fresh (choice.finished_at at reading) c
-  pub unfinished : (reading : Reading) → finish (choice.finished_at at reading) ≡ None
+  pub unfinished : (reading : Reading) → choice.finish (choice.finished_at at reading) ≡ None
 
 abbrev pub Keywords : Slot → Type 0
 Keywords at = (reading : Reading) (c : ℕ) → choice.fresh_at at reading c ≡ choice.before_keyword reading c

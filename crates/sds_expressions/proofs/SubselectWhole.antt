@@ -11,15 +11,14 @@ use Rattle.sds_types.specs.declared.subselect.NodeColumn.{NodeColumn}
 use Rattle.sds_types.specs.declared.subselect.NodeColumn.TheVariants.{ExternalId, NodeId}
 use Rattle.sds_types.specs.declared.subselect.Subselect.{Subselect}
 use Rattle.sds_value.specs.Names.{is_name_text, is_name_character}
-use Rattle.sds_expressions.specs.declared.subselect_read.Reading.{Reading}
-use Rattle.sds_expressions.specs.declared.subselect_read.Slot.{Slot}
-use Rattle.sds_expressions.specs.declared.subselect_read.Slot.TheVariants as slot
-use Rattle.sds_expressions.specs.Subselects as choice
+use Rattle.sds_expressions.specs.declared.subselect_router.Reading.{Reading}
+use Rattle.sds_expressions.specs.declared.subselect_router.Slot.{Slot}
+use Rattle.sds_expressions.specs.declared.subselect_router.Slot.TheVariants as slot
+use Rattle.sds_expressions.specs.SubselectRouter as choice
 use Rattle.sds_expressions.specs.Forms.{Form, ◌▸◌, Exactly, AnyOf, Name}
 use Rattle.sds_expressions.specs.ColumnForm.{doubled, quoted}
 use Rattle.sds_expressions.specs.SubselectForm.{is_spacing, Spacing, Gap, Keyword, keyword_of, ValueOf, ConditionOf, SpacingAfter, ConditionsOf, IsSubselectForm}
 use Rattle.sds_expressions.proofs.ColumnHope.{front_is}
-use Rattle.sds_expressions.proofs.SubselectHope.{finish}
 use Rattle.sds_expressions.proofs.SubselectSound.{accept, on, before, within, SpacingIf, IsWordSlot, IsSignSlot, closes, at_prefix, at_which, at_in, at_select, at_column, at_from, at_table, at_where, at_tested, at_routed, at_next, at_dot, at_open, at_equals}
 
 -- kinds of characters

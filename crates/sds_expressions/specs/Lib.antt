@@ -6,7 +6,8 @@ pub mod ColumnForm
 pub mod LookupForm
 pub mod SubselectForm
 pub mod Printed
-pub mod ColumnTests
-pub mod Lookups
-pub mod Subselects
 pub mod BadPlaces
+pub mod Automaton
+pub mod ColumnRouter
+pub mod LookupRouter
+pub mod SubselectRouter

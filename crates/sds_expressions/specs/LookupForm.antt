@@ -2,8 +2,8 @@
 use Rattle.std.specs.Prelude.{◌≡◌, ◌⊎◌, ◌+◌, ℕ, Bool, true, false, if◌then◌else◌, List, [], ◌∷◌, ◌++◌, codes}
 use Rattle.sds_types.specs.declared.lookup.Lookup.{Lookup}
 use Rattle.sds_value.specs.Names.{is_name_text}
-use Rattle.sds_expressions.specs.declared.lookup_read.LookupKey.{LookupKey}
-use Rattle.sds_expressions.specs.declared.lookup_read.LookupKey.TheVariants.{Table, Column, LookupColumn, ExternalId}
+use Rattle.sds_expressions.specs.declared.lookup_router.LookupKey.{LookupKey}
+use Rattle.sds_expressions.specs.declared.lookup_router.LookupKey.TheVariants.{Table, Column, LookupColumn, ExternalId}
 
 -- the keys, each with its `=`
 abbrev pub key_text : LookupKey → List ℕ

@@ -9,7 +9,7 @@ use Rattle.sds_types.specs.declared.subselect.Compared.TheVariants.{Routed, Text
 use Rattle.sds_types.specs.declared.subselect.Condition.{Condition}
 use Rattle.sds_types.specs.declared.subselect.Subselect.{Subselect}
 use Rattle.sds_value.specs.Names.{is_name_text}
-use Rattle.sds_expressions.specs.declared.lookup_read.LookupKey.TheVariants.{Table, Column, LookupColumn, ExternalId}
+use Rattle.sds_expressions.specs.declared.lookup_router.LookupKey.TheVariants.{Table, Column, LookupColumn, ExternalId}
 use Rattle.sds_expressions.specs.ColumnForm.{begins_old, quoted}
 use Rattle.sds_expressions.specs.LookupForm.{lines_of}
 use Rattle.sds_expressions.specs.SubselectForm.{keyword_of}

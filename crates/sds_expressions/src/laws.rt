@@ -5,12 +5,12 @@ ghost use Rattle.sds_types.specs.declared.subselect.Condition.{Condition};
 ghost use Rattle.sds_types.specs.declared.subselect.Subselect.{Subselect};
 ghost use Rattle.sds_expressions.specs.BadPlaces.{ReadsAs};
 ghost use Rattle.sds_expressions.specs.ColumnForm.{IsColumnForm};
-ghost use Rattle.sds_expressions.specs.ColumnTests.{tests_of};
+ghost use Rattle.sds_expressions.specs.ColumnRouter.{tests_of};
 ghost use Rattle.sds_expressions.specs.LookupForm.{HasNames, IsLookupForm};
-ghost use Rattle.sds_expressions.specs.Lookups.{lookup_read};
+ghost use Rattle.sds_expressions.specs.LookupRouter.{lookup_read};
 ghost use Rattle.sds_expressions.specs.Printed.{IsTest, IsChoice, text_of_tests, text_of_lookup, text_of_choice};
 ghost use Rattle.sds_expressions.specs.SubselectForm.{IsSubselectForm};
-ghost use Rattle.sds_expressions.specs.Subselects.{subselect_of};
+ghost use Rattle.sds_expressions.specs.SubselectRouter.{subselect_of};
 
 /// The law that the deciders of expressions read by the forms: a text reads as a value exactly where it has the form and says
 /// that value, and else it is refused at the first character from which no continuation has the form.

@@ -1,7 +1,7 @@
 ghost use Rattle.std.specs.Prelude.{◌≡◌, ◌==◌, ◌++◌, ◌∷◌, [], true, IfOk, OnOk, string_bytes};
 ghost use Rattle.std.specs.Str.{all_scalars, chars, encode_utf8_all};
 ghost use Rattle.std.specs.List.{starts_with};
-ghost use Rattle.sds_expressions.specs.ColumnTests as wanted;
+ghost use Rattle.sds_value.specs.Names as names;
 
 use sds_base::{List, NoMemory, Txt};
 use std::alloc::Global;
@@ -41,7 +41,7 @@ pub fn begins(text: &[char], front: &[char]) -> bool
 
 /// Whether the character may stand in a name.
 pub fn is_name_character(character: char) -> bool
-    ensures { result ≡ wanted.is_name_character character }
+    ensures { result ≡ names.is_name_character character }
 {
     character.is_ascii_alphanumeric() || character == '_' || character == '-'
 }

@@ -2,23 +2,24 @@
 //! with its definition.
 #![tactic(auto)]
 
+mod automaton;
+mod column_router;
 mod computed;
 mod laws;
 mod letters;
-mod lookup_read;
+mod lookup_router;
 mod numbers;
 mod pieces;
-mod subselect_read;
+mod subselect_router;
 #[cfg(test)]
 mod tests;
-mod tests_read;
 
+pub use column_router::column_tests;
 pub use computed::{left_of, multiplier_of, substr_of, value_map_of, variable_of};
 pub use laws::{
     expressions_have_names, expressions_read_by_their_form, printed_expressions_read_back,
 };
-pub use lookup_read::lookup_text;
+pub use lookup_router::lookup_text;
 pub use numbers::plain_number;
 pub use pieces::{behind, split_at};
-pub use subselect_read::subselect_text;
-pub use tests_read::column_tests;
+pub use subselect_router::subselect_text;

@@ -1,8 +1,8 @@
-use Rattle.sds_expressions.specs.ColumnTests.{tests_of}
+use Rattle.sds_expressions.specs.ColumnRouter.{tests_of}
 use Rattle.sds_expressions.specs.ColumnForm.{IsColumnForm}
-use Rattle.sds_expressions.specs.Lookups.{lookup_read}
+use Rattle.sds_expressions.specs.LookupRouter.{lookup_read}
 use Rattle.sds_expressions.specs.LookupForm.{IsLookupForm}
-use Rattle.sds_expressions.specs.Subselects.{subselect_of}
+use Rattle.sds_expressions.specs.SubselectRouter.{subselect_of}
 use Rattle.sds_expressions.specs.SubselectForm.{IsSubselectForm}
 use Rattle.sds_expressions.proofs.ByForm.{by_form}
 use Rattle.sds_expressions.proofs.ColumnHope.{column_bad}

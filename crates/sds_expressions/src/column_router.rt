@@ -1,7 +1,9 @@
 ghost use Rattle.std.specs.Prelude.{◌≡◌, ◌∷◌, [], IfOk, if◌then◌else◌};
 ghost use Rattle.std.specs.Str.{chars};
-ghost use Rattle.sds_expressions.specs.ColumnTests as wanted;
+ghost use Rattle.sds_expressions.specs.ColumnForm.{begins_old, is_bare_character};
+ghost use Rattle.sds_expressions.specs.ColumnRouter as wanted;
 
+use crate::automaton::{read_text, Automaton};
 use crate::letters::{begins, characters_of, is_name_character, one, text_of};
 use sds_base::{List, NoMemory};
 use sds_types::{ColumnTest, Operand};
@@ -62,21 +64,40 @@ pub fn column_tests(alloc: Global, text: &str) -> Result<Result<List<ColumnTest>
     ensures { IfOk result (λ read. read ≡ wanted.tests_of (chars text.now)) }
 {
     let characters = characters_of(alloc, text)?;
-    read_tests(alloc, characters.as_slice())
+    read_text(alloc, beginning(alloc), characters.as_slice())
 }
 
-fn read_tests(alloc: Global, text: &[char]) -> Result<Result<List<ColumnTest>, usize>, NoMemory>
-    ensures { IfOk result (λ read. read ≡ wanted.tests_of text.now) }
-{
-    let mut reading = beginning(alloc);
-    for (place, c) in text.iter().enumerate() {
-        if !step(alloc, &mut reading, *c)? {
-            return Ok(Err(place));
+impl Automaton<List<ColumnTest>> for Reading {
+    ghost step = { wanted.step };
+    ghost finish = { wanted.finish };
+
+    fn read(&mut self, alloc: Global, c: char) -> Result<bool, NoMemory> {
+        match self.part {
+            Part::Before | Part::Fresh => step_before(alloc, self, c),
+            Part::Name => step_name(alloc, self, c),
+            Part::Named => step_named(alloc, self, c),
+            Part::Bang => step_bang(alloc, self, c),
+            Part::Sign => step_sign(alloc, self, c),
+            Part::Colon => step_colon(alloc, self, c),
+            Part::Bare => step_bare(alloc, self, c),
+            Part::Quoted => step_quoted(alloc, self, c),
+            Part::Quote => step_quote(alloc, self, c),
+            Part::Behind => step_behind(alloc, self, c),
+            Part::Letter => step_letter(alloc, self, c),
+            Part::Joined => step_joined(alloc, self, c),
         }
     }
-    match tests_ended(alloc, reading)? {
-        Some(tests) => Ok(Ok(tests)),
-        None => Ok(Err(text.len())),
+
+    fn end(self, alloc: Global) -> Result<Option<List<ColumnTest>>, NoMemory> {
+        let text = self.text.inner().as_slice();
+        let operand = match self.part {
+            Part::Behind | Part::Fresh => return Ok(Some(self.tests)),
+            Part::Colon => operand_named(text),
+            Part::Bare => Some(bare_operand(alloc, text)?),
+            Part::Quote => Some(Operand::Text(text_of(alloc, text)?)),
+            _ => None,
+        };
+        last_test(alloc, self, operand)
     }
 }
 
@@ -90,21 +111,6 @@ fn beginning(alloc: Global) -> Reading
         text: List::new(alloc),
         part: Part::Before,
     }
-}
-
-/// The tests of a text that ends here, where it may.
-fn tests_ended(alloc: Global, reading: Reading) -> Result<Option<List<ColumnTest>>, NoMemory>
-    ensures { IfOk result (λ tests. tests ≡ wanted.tests_at reading.part reading) }
-{
-    let text = reading.text.inner().as_slice();
-    let operand = match reading.part {
-        Part::Behind | Part::Fresh => return Ok(Some(reading.tests)),
-        Part::Colon => operand_named(text),
-        Part::Bare => Some(bare_operand(alloc, text)?),
-        Part::Quote => Some(Operand::Text(text_of(alloc, text)?)),
-        _ => None,
-    };
-    last_test(alloc, reading, operand)
 }
 
 fn last_test(
@@ -122,26 +128,6 @@ fn last_test(
             reading.tests.push(test)?;
             Ok(Some(reading.tests))
         }
-    }
-}
-
-/// Reads a character, and says whether a continuation is of the form.
-fn step(alloc: Global, reading: &mut Reading, c: char) -> Result<bool, NoMemory>
-    ensures { IfOk result (λ goes. (if goes then Some reading.new else None) ≡ wanted.step reading.old c) }
-{
-    match reading.part {
-        Part::Before | Part::Fresh => step_before(alloc, reading, c),
-        Part::Name => step_name(alloc, reading, c),
-        Part::Named => step_named(alloc, reading, c),
-        Part::Bang => step_bang(alloc, reading, c),
-        Part::Sign => step_sign(alloc, reading, c),
-        Part::Colon => step_colon(alloc, reading, c),
-        Part::Bare => step_bare(alloc, reading, c),
-        Part::Quoted => step_quoted(alloc, reading, c),
-        Part::Quote => step_quote(alloc, reading, c),
-        Part::Behind => step_behind(alloc, reading, c),
-        Part::Letter => step_letter(alloc, reading, c),
-        Part::Joined => step_joined(alloc, reading, c),
     }
 }
 
@@ -331,14 +317,14 @@ fn test_of(alloc: Global, reading: &Reading, operand: Operand) -> Result<ColumnT
     let name = reading.name.inner().as_slice();
     Ok(ColumnTest {
         name: text_of(alloc, column_name(name))?,
-        old: asks_old(name),
+        old: begins_old(name),
         differs: reading.differs,
         operand,
     })
 }
 
-fn asks_old(name: &[char]) -> bool
-    ensures { result ≡ wanted.asks_old name.now }
+fn begins_old(name: &[char]) -> bool
+    ensures { result ≡ begins_old name.now }
 {
     begins(name, &['O', 'L', 'D', '_'])
 }
@@ -365,7 +351,7 @@ fn is_whole(name: &[char]) -> bool
 }
 
 fn is_bare_character(c: char) -> bool
-    ensures { result ≡ wanted.is_bare_character c }
+    ensures { result ≡ is_bare_character c }
 {
     is_name_character(c) || c == '.'
 }

@@ -1,14 +1,15 @@
--- The expression of a `lookuptable` router: four lines, each a key with its name, in any order. It is read character by character.
+-- Decides which texts have the form of LookupForm, character by character.
 use Rattle.std.specs.Prelude.{ℕ, ◌+◌, Bool, not, ◌&&◌, ◌||◌, ◌==◌, nat_lt, if◌then◌else◌, List, [], ◌∷◌, ◌++◌, length, codes, Option, Some, None, is_some, Result, Ok, Err}
 use Rattle.std.specs.List.{starts_with}
 use Rattle.std.specs.Str.{bytes_eq}
 use Rattle.sds_types.specs.declared.lookup.Lookup.{Lookup}
-use Rattle.sds_expressions.specs.declared.lookup_read.LookupKey.{LookupKey}
-use Rattle.sds_expressions.specs.declared.lookup_read.LookupKey.TheVariants.{Table, Column, LookupColumn, ExternalId}
-use Rattle.sds_expressions.specs.declared.lookup_read.Part.{Part}
-use Rattle.sds_expressions.specs.declared.lookup_read.Part.TheVariants as part
-use Rattle.sds_expressions.specs.declared.lookup_read.Reading.{Reading}
-use Rattle.sds_expressions.specs.ColumnTests.{is_name_character}
+use Rattle.sds_expressions.specs.declared.lookup_router.LookupKey.{LookupKey}
+use Rattle.sds_expressions.specs.declared.lookup_router.LookupKey.TheVariants.{Table, Column, LookupColumn, ExternalId}
+use Rattle.sds_expressions.specs.declared.lookup_router.Part.{Part}
+use Rattle.sds_expressions.specs.declared.lookup_router.Part.TheVariants as part
+use Rattle.sds_expressions.specs.declared.lookup_router.Reading.{Reading}
+use Rattle.sds_value.specs.Names.{is_name_character}
+use Rattle.sds_expressions.specs.Automaton.{run}
 use Rattle.sds_expressions.specs.LookupForm.{key_text}
 
 -- the name that is read for a key
@@ -95,17 +96,12 @@ lookup_at part.Key reading = None
 lookup_at part.Name reading = last_line reading reading.word
 lookup_at part.Ended reading = lookup_of reading
 
-abbrev pub end_of : ℕ → Option Lookup → Result Lookup ℕ
-end_of place (Some lookup) = Ok lookup
-end_of place None = Err place
-
--- the lookup, or the place of the first character from which no continuation is of the form
-abbrev pub lookup_from : ℕ → Reading → List ℕ → Result Lookup ℕ
-lookup_from place reading [] = end_of place (lookup_at reading.part reading)
-lookup_from place reading (c ∷ cs) = elim (step reading c) [ None ↦ Err place | Some next ↦ lookup_from (place + 1) next cs ]
+abbrev pub finish : Reading → Option Lookup
+finish reading = lookup_at reading.part reading
 
 abbrev pub beginning : Reading
 beginning = record { table = None; column = None; lookup_column = None; external_id = None; key = Table; word = []; part = part.Key }
 
+-- the lookup that a text says, or the place at which it leaves the form
 abbrev pub lookup_read : List ℕ → Result Lookup ℕ
-lookup_read text = lookup_from 0 beginning text
+lookup_read text = run step finish 0 beginning text

@@ -1,5 +1,4 @@
--- The expression of a `subselect` router: `c.external_id in (select COLUMN from TABLE where CONDITION and CONDITION ..)`, or with
--- `c.node_id`. It is read character by character. Letters of keywords stand in either case, and spacing separates two words.
+-- Decides which texts have the form of SubselectForm, character by character.
 use Rattle.std.specs.Prelude.{ℕ, ◌+◌, Bool, true, false, ◌&&◌, ◌||◌, ◌==◌, nat_lt, if◌then◌else◌, List, [], ◌∷◌, ◌++◌, length, codes, Option, Some, None, Result, Ok, Err}
 use Rattle.std.specs.Char.{to_ascii_lowercase}
 use Rattle.std.specs.List.{starts_with}
@@ -9,10 +8,11 @@ use Rattle.sds_types.specs.declared.subselect.Compared.TheVariants.{Routed, Text
 use Rattle.sds_types.specs.declared.subselect.NodeColumn.{NodeColumn}
 use Rattle.sds_types.specs.declared.subselect.NodeColumn.TheVariants.{ExternalId, NodeId}
 use Rattle.sds_types.specs.declared.subselect.Subselect.{Subselect}
-use Rattle.sds_expressions.specs.declared.subselect_read.Reading.{Reading}
-use Rattle.sds_expressions.specs.declared.subselect_read.Slot.{Slot}
-use Rattle.sds_expressions.specs.declared.subselect_read.Slot.TheVariants as slot
-use Rattle.sds_expressions.specs.ColumnTests.{is_name_character}
+use Rattle.sds_expressions.specs.declared.subselect_router.Reading.{Reading}
+use Rattle.sds_expressions.specs.declared.subselect_router.Slot.{Slot}
+use Rattle.sds_expressions.specs.declared.subselect_router.Slot.TheVariants as slot
+use Rattle.sds_value.specs.Names.{is_name_character}
+use Rattle.sds_expressions.specs.Automaton.{run}
 use Rattle.sds_expressions.specs.SubselectForm.{is_spacing}
 
 -- the keywords that may stand in a slot
@@ -156,17 +156,12 @@ abbrev pub choice_at : Slot → Reading → Option Subselect
 choice_at slot.Close reading = Some (record { by = reading.by; column = reading.column; table = reading.table; conditions = reading.conditions })
 choice_at other reading = None
 
-abbrev pub end_of : ℕ → Option Subselect → Result Subselect ℕ
-end_of place (Some choice) = Ok choice
-end_of place None = Err place
-
--- the choice, or the place of the first character from which no continuation is of the form
-abbrev pub choice_from : ℕ → Reading → List ℕ → Result Subselect ℕ
-choice_from place reading [] = end_of place (choice_at reading.slot reading)
-choice_from place reading (c ∷ cs) = elim (step reading c) [ None ↦ Err place | Some next ↦ choice_from (place + 1) next cs ]
+abbrev pub finish : Reading → Option Subselect
+finish reading = choice_at reading.slot reading
 
 abbrev pub beginning : Reading
 beginning = record { by = ExternalId; column = []; table = []; tested = []; conditions = []; word = []; spaced = true; slot = slot.Prefix }
 
+-- the choice that a text says, or the place at which it leaves the form
 abbrev pub subselect_of : List ℕ → Result Subselect ℕ
-subselect_of text = choice_from 0 beginning text
+subselect_of text = run step finish 0 beginning text

@@ -2,8 +2,9 @@ ghost use Rattle.std.specs.Prelude.{◌≡◌, ◌==◌, IfOk, if◌then◌else�
 ghost use Rattle.std.specs.Str.{bytes_eq, chars};
 ghost use Rattle.std.specs.List.{starts_with};
 ghost use Rattle.sds_expressions.specs.LookupForm.{key_text};
-ghost use Rattle.sds_expressions.specs.Lookups as wanted;
+ghost use Rattle.sds_expressions.specs.LookupRouter as wanted;
 
+use crate::automaton::{read_text, Automaton};
 use crate::letters::{begins, characters_of, is_name_character, text_of};
 use sds_base::{List, NoMemory, Txt};
 use sds_types::Lookup;
@@ -58,21 +59,27 @@ pub fn lookup_text(alloc: Global, text: &str) -> Result<Result<Lookup, usize>, N
     ensures { IfOk result (λ read. read ≡ wanted.lookup_read (chars text.now)) }
 {
     let characters = characters_of(alloc, text)?;
-    lookup_of_characters(alloc, characters.as_slice())
+    read_text(alloc, beginning(alloc), characters.as_slice())
 }
 
-fn lookup_of_characters(alloc: Global, text: &[char]) -> Result<Result<Lookup, usize>, NoMemory>
-    ensures { IfOk result (λ read. read ≡ wanted.lookup_read text.now) }
-{
-    let mut reading = beginning(alloc);
-    for (place, c) in text.iter().enumerate() {
-        if !step(alloc, &mut reading, *c)? {
-            return Ok(Err(place));
+impl Automaton<Lookup> for Reading {
+    ghost step = { wanted.step };
+    ghost finish = { wanted.finish };
+
+    fn read(&mut self, alloc: Global, c: char) -> Result<bool, NoMemory> {
+        match self.part {
+            Part::Key => step_key(alloc, self, c),
+            Part::Name => step_name(alloc, self, c),
+            Part::Ended => Ok(false),
         }
     }
-    match lookup_ended(alloc, reading)? {
-        Some(lookup) => Ok(Ok(lookup)),
-        None => Ok(Err(text.len())),
+
+    fn end(self, alloc: Global) -> Result<Option<Lookup>, NoMemory> {
+        match self.part {
+            Part::Key => Ok(None),
+            Part::Name => last_line(alloc, self),
+            Part::Ended => Ok(lookup_of(self)),
+        }
     }
 }
 
@@ -87,17 +94,6 @@ fn beginning(alloc: Global) -> Reading
         key: LookupKey::Table,
         word: List::new(alloc),
         part: Part::Key,
-    }
-}
-
-/// The lookup of a text that ends here, where it may.
-fn lookup_ended(alloc: Global, reading: Reading) -> Result<Option<Lookup>, NoMemory>
-    ensures { IfOk result (λ lookup. lookup ≡ wanted.lookup_at reading.part reading) }
-{
-    match reading.part {
-        Part::Key => Ok(None),
-        Part::Name => last_line(alloc, reading),
-        Part::Ended => Ok(lookup_of(reading)),
     }
 }
 
@@ -129,17 +125,6 @@ fn lookup_of(reading: Reading) -> Option<Lookup>
             external_id,
         }),
         _ => None,
-    }
-}
-
-/// Reads a character, and says whether a continuation is of the form.
-fn step(alloc: Global, reading: &mut Reading, c: char) -> Result<bool, NoMemory>
-    ensures { IfOk result (λ goes. (if goes then Some reading.new else None) ≡ wanted.step reading.old c) }
-{
-    match reading.part {
-        Part::Key => step_key(alloc, reading, c),
-        Part::Name => step_name(alloc, reading, c),
-        Part::Ended => Ok(false),
     }
 }
 

@@ -1,5 +1,5 @@
--- The expression of a `column` router: tests that ` or ` or a line feed joins. It is read character by character: a character
--- leads from one state of the reading to the next, or no continuation is of the form.
+-- Decides which texts have the form of ColumnForm, character by character: a character leads from one state of the reading to
+-- the next, or no continuation has the form.
 use Rattle.std.specs.Prelude.{ℕ, ◌+◌, Bool, true, false, ◌||◌, ◌==◌, nat_le, if◌then◌else◌, List, [], ◌∷◌, ◌++◌, length, drop, codes, Option, Some, None, Result, Ok, Err}
 use Rattle.std.specs.List.{starts_with}
 use Rattle.std.specs.Char.{is_ascii_alphanumeric}
@@ -7,24 +7,16 @@ use Rattle.std.specs.Str.{bytes_eq}
 use Rattle.sds_types.specs.declared.column_test.ColumnTest.{ColumnTest}
 use Rattle.sds_types.specs.declared.column_test.Operand.{Operand}
 use Rattle.sds_types.specs.declared.column_test.Operand.TheVariants.{NodeId, ExternalId, NodeGroupId, Null, Text}
-use Rattle.sds_expressions.specs.declared.tests_read.Part.{Part}
-use Rattle.sds_expressions.specs.declared.tests_read.Part.TheVariants as part
-use Rattle.sds_expressions.specs.declared.tests_read.Reading.{Reading}
-
--- a character of a name, and of a bare text, which may have a point too
-abbrev pub is_name_character : ℕ → Bool
-is_name_character c = is_ascii_alphanumeric c || (c == 95 || c == 45)
-
-abbrev pub is_bare_character : ℕ → Bool
-is_bare_character c = is_name_character c || c == 46
-
--- a name that asks for the old value begins with `OLD_`
-abbrev pub asks_old : List ℕ → Bool
-asks_old name = starts_with (λ a b. a == b) name (codes "OLD_")
+use Rattle.sds_value.specs.Names.{is_name_character}
+use Rattle.sds_expressions.specs.Automaton.{run}
+use Rattle.sds_expressions.specs.ColumnForm.{begins_old, is_bare_character}
+use Rattle.sds_expressions.specs.declared.column_router.Part.{Part}
+use Rattle.sds_expressions.specs.declared.column_router.Part.TheVariants as part
+use Rattle.sds_expressions.specs.declared.column_router.Reading.{Reading}
 
 -- the name of the column
 abbrev pub column_name : List ℕ → List ℕ
-column_name name = if asks_old name then drop 4 name else name
+column_name name = if begins_old name then drop 4 name else name
 
 -- a name of a column has 1 to 50 characters
 abbrev pub is_short : List ℕ → Bool
@@ -56,7 +48,7 @@ operand_at other text = None
 
 -- the test of a value
 abbrev pub test_of : Reading → Operand → ColumnTest
-test_of reading operand = record { name = column_name reading.name; old = asks_old reading.name; differs = reading.differs; operand = operand }
+test_of reading operand = record { name = column_name reading.name; old = begins_old reading.name; differs = reading.differs; operand = operand }
 
 abbrev pub at_part : Reading → Part → Reading
 at_part reading next = record reading { part = next }
@@ -157,17 +149,12 @@ tests_at part.Behind reading = Some reading.tests
 tests_at part.Fresh reading = Some reading.tests
 tests_at other reading = tests_ended reading (operand_at other reading.text)
 
--- the tests, or the place of the first character from which no continuation is of the form
-abbrev pub end_of : ℕ → Option (List ColumnTest) → Result (List ColumnTest) ℕ
-end_of place (Some tests) = Ok tests
-end_of place None = Err place
-
-abbrev pub tests_from : ℕ → Reading → List ℕ → Result (List ColumnTest) ℕ
-tests_from place reading [] = end_of place (tests_at reading.part reading)
-tests_from place reading (c ∷ cs) = elim (step reading c) [ None ↦ Err place | Some next ↦ tests_from (place + 1) next cs ]
+abbrev pub finish : Reading → Option (List ColumnTest)
+finish reading = tests_at reading.part reading
 
 abbrev pub beginning : Reading
 beginning = record { tests = []; name = []; differs = false; text = []; part = part.Before }
 
+-- the tests that a text says, or the place at which it leaves the form
 abbrev pub tests_of : List ℕ → Result (List ColumnTest) ℕ
-tests_of text = tests_from 0 beginning text
+tests_of text = run step finish 0 beginning text

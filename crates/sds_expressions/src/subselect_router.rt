@@ -1,8 +1,9 @@
 ghost use Rattle.std.specs.Prelude.{◌≡◌, true, false, IfOk, OnOk, if◌then◌else◌};
 ghost use Rattle.std.specs.Str.{chars};
 ghost use Rattle.sds_expressions.specs.SubselectForm.{is_spacing};
-ghost use Rattle.sds_expressions.specs.Subselects as wanted;
+ghost use Rattle.sds_expressions.specs.SubselectRouter as wanted;
 
+use crate::automaton::{read_text, Automaton};
 use crate::letters::{begins, characters_of, is_name_character, one, text_of};
 use sds_base::{List, NoMemory};
 use sds_types::{Compared, Condition, NodeColumn, Subselect};
@@ -86,24 +87,31 @@ pub fn subselect_text(alloc: Global, text: &str) -> Result<Result<Subselect, usi
     ensures { IfOk result (λ read. read ≡ wanted.subselect_of (chars text.now)) }
 {
     let characters = characters_of(alloc, text)?;
-    subselect_of_characters(alloc, characters.as_slice())
+    read_text(alloc, beginning(alloc), characters.as_slice())
 }
 
-fn subselect_of_characters(
-    alloc: Global,
-    text: &[char],
-) -> Result<Result<Subselect, usize>, NoMemory>
-    ensures { IfOk result (λ read. read ≡ wanted.subselect_of text.now) }
-{
-    let mut reading = beginning(alloc);
-    for (place, c) in text.iter().enumerate() {
-        if !step(alloc, &mut reading, *c)? {
-            return Ok(Err(place));
+impl Automaton<Subselect> for Reading {
+    ghost step = { wanted.step };
+    ghost finish = { wanted.finish };
+
+    fn read(&mut self, alloc: Global, c: char) -> Result<bool, NoMemory> {
+        match self.slot {
+            Slot::Quoted => in_quotes(alloc, self, c),
+            Slot::Quote => behind_quote(alloc, self, c),
+            _ => outside(alloc, self, c),
         }
     }
-    match choice_ended(alloc, reading)? {
-        Some(choice) => Ok(Ok(choice)),
-        None => Ok(Err(text.len())),
+
+    fn end(self, alloc: Global) -> Result<Option<Subselect>, NoMemory> {
+        match self.slot {
+            Slot::Close => Ok(Some(Subselect {
+                by: self.by,
+                column: text_of(alloc, self.column.inner().as_slice())?,
+                table: text_of(alloc, self.table.inner().as_slice())?,
+                conditions: self.conditions,
+            })),
+            _ => Ok(None),
+        }
     }
 }
 
@@ -119,32 +127,6 @@ fn beginning(alloc: Global) -> Reading
         word: List::new(alloc),
         spaced: true,
         slot: Slot::Prefix,
-    }
-}
-
-/// The choice of a text that ends here, where it may.
-fn choice_ended(alloc: Global, reading: Reading) -> Result<Option<Subselect>, NoMemory>
-    ensures { IfOk result (λ choice. choice ≡ wanted.choice_at reading.slot reading) }
-{
-    match reading.slot {
-        Slot::Close => Ok(Some(Subselect {
-            by: reading.by,
-            column: text_of(alloc, reading.column.inner().as_slice())?,
-            table: text_of(alloc, reading.table.inner().as_slice())?,
-            conditions: reading.conditions,
-        })),
-        _ => Ok(None),
-    }
-}
-
-/// Reads a character, and says whether a continuation is of the form.
-fn step(alloc: Global, reading: &mut Reading, c: char) -> Result<bool, NoMemory>
-    ensures { IfOk result (λ goes. (if goes then Some reading.new else None) ≡ wanted.step reading.old c) }
-{
-    match reading.slot {
-        Slot::Quoted => in_quotes(alloc, reading, c),
-        Slot::Quote => behind_quote(alloc, reading, c),
-        _ => outside(alloc, reading, c),
     }
 }
 
