@@ -1,6 +1,7 @@
 ghost use Rattle.std.specs.Prelude.{◌≡◌, ◌∷◌, [], IfOk, if◌then◌else◌};
 ghost use Rattle.std.specs.Str.{chars};
-ghost use Rattle.sds_expressions.specs.ColumnForm.{begins_old, is_bare_character};
+ghost use Rattle.sds_expressions.specs.BadPlaces.{ReadsAs};
+ghost use Rattle.sds_expressions.specs.ColumnForm.{IsColumnForm, begins_old, is_bare_character};
 ghost use Rattle.sds_expressions.specs.ColumnRouter as wanted;
 
 use crate::automaton::{read_text, Automaton};
@@ -61,7 +62,8 @@ pub struct Reading {
 /// The tests of a `column` router's expression, or the place of the first character, from 0, from which no continuation is of
 /// the form; where the text ends too early that is its length.
 pub fn column_tests(alloc: Global, text: &str) -> Result<Result<List<ColumnTest>, usize>, NoMemory>
-    ensures { IfOk result (λ read. read ≡ wanted.tests_of (chars text.now)) }
+    ensures form { IfOk result (λ read. ReadsAs IsColumnForm (chars text.now) read) }
+    ensures decided { IfOk result (λ read. read ≡ wanted.tests_of (chars text.now)) }
 {
     let characters = characters_of(alloc, text)?;
     read_text(alloc, beginning(alloc), characters.as_slice())

@@ -1,7 +1,8 @@
 ghost use Rattle.std.specs.Prelude.{◌≡◌, ◌==◌, IfOk, if◌then◌else◌};
 ghost use Rattle.std.specs.Str.{bytes_eq, chars};
 ghost use Rattle.std.specs.List.{starts_with};
-ghost use Rattle.sds_expressions.specs.LookupForm.{key_text};
+ghost use Rattle.sds_expressions.specs.BadPlaces.{ReadsAs};
+ghost use Rattle.sds_expressions.specs.LookupForm.{IsLookupForm, key_text};
 ghost use Rattle.sds_expressions.specs.LookupRouter as wanted;
 
 use crate::automaton::{read_text, Automaton};
@@ -56,7 +57,8 @@ pub struct Reading {
 /// The lookup of a `lookuptable` router's expression, or the place of the first character, from 0, from which no
 /// continuation is of the form; where the text ends too early that is its length.
 pub fn lookup_text(alloc: Global, text: &str) -> Result<Result<Lookup, usize>, NoMemory>
-    ensures { IfOk result (λ read. read ≡ wanted.lookup_read (chars text.now)) }
+    ensures form { IfOk result (λ read. ReadsAs IsLookupForm (chars text.now) read) }
+    ensures decided { IfOk result (λ read. read ≡ wanted.lookup_read (chars text.now)) }
 {
     let characters = characters_of(alloc, text)?;
     read_text(alloc, beginning(alloc), characters.as_slice())

@@ -1,6 +1,7 @@
 ghost use Rattle.std.specs.Prelude.{◌≡◌, true, false, IfOk, OnOk, if◌then◌else◌};
 ghost use Rattle.std.specs.Str.{chars};
-ghost use Rattle.sds_expressions.specs.SubselectForm.{is_spacing};
+ghost use Rattle.sds_expressions.specs.BadPlaces.{ReadsAs};
+ghost use Rattle.sds_expressions.specs.SubselectForm.{IsSubselectForm, is_spacing};
 ghost use Rattle.sds_expressions.specs.SubselectRouter as wanted;
 
 use crate::automaton::{read_text, Automaton};
@@ -84,7 +85,8 @@ pub struct Reading {
 /// The choice of a `subselect` router's expression, or the place of the first character, from 0, from which no continuation
 /// is of the form; where the text ends too early that is its length.
 pub fn subselect_text(alloc: Global, text: &str) -> Result<Result<Subselect, usize>, NoMemory>
-    ensures { IfOk result (λ read. read ≡ wanted.subselect_of (chars text.now)) }
+    ensures form { IfOk result (λ read. ReadsAs IsSubselectForm (chars text.now) read) }
+    ensures decided { IfOk result (λ read. read ≡ wanted.subselect_of (chars text.now)) }
 {
     let characters = characters_of(alloc, text)?;
     read_text(alloc, beginning(alloc), characters.as_slice())
