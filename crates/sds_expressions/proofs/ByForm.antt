@@ -14,7 +14,7 @@ one_place : {T : Type 0} (IsForm : List ℕ → T → Type 0) (text : List ℕ) 
 one_place IsForm text p q first second below =
     let good = second.hopeful in
     let cut : take q text ++ good.0 ≡ take (p + 1) text ++ (drop (p + 1) (take q text) ++ good.0) =
-        ap (λ x. x ++ good.0) (section_same (p + 1) q text (omega (arith, below))) ∙ append_assoc (take (p + 1) text) (drop (p + 1) (take q text)) good.0 in
+    ap (λ x. x ++ good.0) (section_same (p + 1) q text (omega (arith, below))) ∙ append_assoc (take (p + 1) text) (drop (p + 1) (take q text)) good.0 in
     first.hopeless (omega (arith, below, second.within)) (drop (p + 1) (take q text) ++ good.0) good.2 (subst (λ x. IsForm x good.2) cut good.3)
 
 same_place : {T : Type 0} (IsForm : List ℕ → T → Type 0) (text : List ℕ) (p q : ℕ) → IsFirstBad IsForm text p → IsFirstBad IsForm text q → p ≡ q
@@ -27,7 +27,6 @@ same_place IsForm text p q first second = at (cases_order p q)
 
 module _ {T : Type 0} (read : List ℕ → Result T ℕ) (IsForm : List ℕ → T → Type 0) (says : (text : List ℕ) (value : T) → (read text ≡ Ok value) ↔ IsForm text value)
     (bad : (text : List ℕ) (place : ℕ) → read text ≡ Err place → IsBadPlace read text place) where
-
   first_bad : (text : List ℕ) (place : ℕ) → read text ≡ Err place → IsFirstBad IsForm text place
   first_bad text place e =
       let old = bad text place e in

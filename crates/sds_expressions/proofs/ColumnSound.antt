@@ -82,7 +82,10 @@ to_named r n (c ∷ cs) v short e =
     longer t q =
         let same : (n ++ c ∷ []) ++ q.word ≡ n ++ (c ∷ q.word) = append_assoc n (c ∷ []) q.word in
         record {
-          word = c ∷ q.word; rest = q.rest; is = ap (λ xs. c ∷ xs) q.is; all = rw t q.all;
+          word = c ∷ q.word;
+          rest = q.rest;
+          is = ap (λ xs. c ∷ xs) q.is;
+          all = rw t q.all;
           short = subst (λ w. column.is_short w ≡ true) same q.short;
           whole = subst (λ w. column.is_whole w ≡ true) same q.whole;
           more = subst (λ w. accept (named r w) q.rest ≡ Some v) same q.more;
@@ -152,7 +155,7 @@ to_quoted r t (c ∷ []) v e =
 to_quoted r t (c ∷ d ∷ cs) v e =
     branch (on (d ∷ cs)) v (c == 39) _ _
     (λ u f. branch (on cs) v (d == 39) _ _ (λ w g. twice (eqb-true c 39 u) (eqb-true d 39 w) (to_quoted r (t ++ d ∷ []) cs v g))
-        (λ w g. record { word = []; rest = d ∷ cs; is = ap (λ x. x ∷ d ∷ cs) (eqb-true c 39 u); more = rw (append-nil t) g }) f)
+    (λ w g. record { word = []; rest = d ∷ cs; is = ap (λ x. x ∷ d ∷ cs) (eqb-true c 39 u); more = rw (append-nil t) g }) f)
     (λ u f. once u (to_quoted r (t ++ c ∷ []) (d ∷ cs) v f)) e
   where
     twice : c ≡ 39 → d ≡ 39 → QuotedRead r (t ++ d ∷ []) cs v → QuotedRead r t (c ∷ d ∷ cs) v
@@ -186,8 +189,14 @@ to_word r t (c ∷ cs) v e =
     longer : WordRead r (t ++ c ∷ []) cs v → WordRead r t (c ∷ cs) v
     longer q =
         let same : (t ++ c ∷ []) ++ q.word ≡ t ++ (c ∷ q.word) = append_assoc t (c ∷ []) q.word in
-        record { word = c ∷ q.word; rest = q.rest; is = ap (λ xs. c ∷ xs) q.is; operand = q.operand; means = subst (λ w. column.operand_named w ≡ Some q.operand) same q.means;
-            more = subst (λ w. after (with_text r w part.Sign) q.operand q.rest ≡ Some v) same q.more }
+        record {
+          word = c ∷ q.word;
+          rest = q.rest;
+          is = ap (λ xs. c ∷ xs) q.is;
+          operand = q.operand;
+          means = subst (λ w. column.operand_named w ≡ Some q.operand) same q.means;
+          more = subst (λ w. after (with_text r w part.Sign) q.operand q.rest ≡ Some v) same q.more;
+        }
 
     at : (o : Option Operand) → column.operand_named t ≡ o → option_and_then (on cs) (column.ended (with_text r t part.Colon) c o) ≡ Some v → WordRead r t (c ∷ cs) v
     at None is f = absurd (cc)

@@ -241,7 +241,7 @@ test_accepted : (r : Reading) (test : ColumnTest) (text rest : List ℕ) → Tes
 test_accepted r test text rest (a, t1, e1, spaces, (word, t2, e2, name, (b, t3, e3, more, (sign, t4, e4, is_sign, (c, t5, e5, still, (value, d, e6, is_value, last)))))) closed =
     let good = named_word test.old test.name word name in
     let whole : text ++ rest ≡ a ++ (word ++ (b ++ (sign ++ (c ++ (value ++ (d ++ rest)))))) =
-        regroup a t1 _ text rest e1 (regroup word t2 _ t1 rest e2 (regroup b t3 _ t2 rest e3 (regroup sign t4 _ t3 rest e4 (regroup c t5 _ t4 rest e5 (regroup value d _ t5 rest e6 refl))))) in
+    regroup a t1 _ text rest e1 (regroup word t2 _ t1 rest e2 (regroup b t3 _ t2 rest e3 (regroup sign t4 _ t3 rest e4 (regroup c t5 _ t4 rest e5 (regroup value d _ t5 rest e6 refl))))) in
     let with_name = signed (named r word) test.differs in
     let left = value_read with_name test.operand value (d ++ rest) is_value (closed_spaces d rest last closed) in
     let end = tested (with_text with_name left.0 part.Sign) test.operand in

@@ -139,8 +139,15 @@ to_line r key w (c ∷ cs) v short e =
     longer : is_name_character c ≡ true → NameRead r key (w ++ c ∷ []) cs v → NameRead r key w (c ∷ cs) v
     longer t q =
         let same : (w ++ c ∷ []) ++ q.word ≡ w ++ (c ∷ q.word) = append_assoc w (c ∷ []) q.word in
-        record { word = c ∷ q.word; rest = q.rest; is = ap (λ x. c ∷ x) q.is; all = rw t q.all; short = subst (λ x. nat_le (length x) 50 ≡ true) same q.short;
-            some = subst (λ x. nat_le 1 (length x) ≡ true) same q.some; more = subst (λ x. after (line r key x) q.rest ≡ Some v) same q.more }
+        record {
+          word = c ∷ q.word;
+          rest = q.rest;
+          is = ap (λ x. c ∷ x) q.is;
+          all = rw t q.all;
+          short = subst (λ x. nat_le (length x) 50 ≡ true) same q.short;
+          some = subst (λ x. nat_le 1 (length x) ≡ true) same q.some;
+          more = subst (λ x. after (line r key x) q.rest ≡ Some v) same q.more;
+        }
 
     ends : (c == 10 ≡ true) × (nat_lt 0 (length w) ≡ true) → accept (lookup.next_line (lookup.with_line key (in_name r key w) w)) cs ≡ Some v → NameRead r key w (c ∷ cs) v
     ends (t, s) f = record { word = []; rest = c ∷ cs; is = refl; all = refl; short = rw (append-nil w) short; some = rw (append-nil w) (positive (length w) s); more = rw (append-nil w, t) f }
@@ -298,8 +305,14 @@ with_line r cs v q p again = by p.rest refl p.more
     others : (c : ℕ) (more : List ℕ) → p.rest ≡ c ∷ more → c ≡ 10 → LinesRead (line r q.key p.word) more v → LinesRead r cs v
     others c more e ten l =
         let m = more_lines r q.key p.word (l.first ∷ l.others) v q.still good (record { once = l.once; fits = l.fits; names = l.names }) in
-        record { first = q.key; others = l.first ∷ l.others; once = m.1.once; fits = m.1.fits; names = m.1.names;
-            is = next_lines cs (key_text q.key) (name_for q.key v) p.word more (lines_of v (l.first ∷ l.others)) c ten m.0 (cut (c ∷ more) e) l.is }
+        record {
+          first = q.key;
+          others = l.first ∷ l.others;
+          once = m.1.once;
+          fits = m.1.fits;
+          names = m.1.names;
+          is = next_lines cs (key_text q.key) (name_for q.key v) p.word more (lines_of v (l.first ∷ l.others)) c ten m.0 (cut (c ∷ more) e) l.is;
+        }
 
     at : (o : Option Lookup) → lookup.lookup_of (line r q.key p.word) ≡ o → (c : ℕ) (more : List ℕ) → p.rest ≡ c ∷ more → c ≡ 10
         → accept (record (line r q.key p.word) { word = []; part = lookup.part_behind o }) more ≡ Some v → LinesRead r cs v

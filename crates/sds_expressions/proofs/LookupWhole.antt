@@ -159,7 +159,7 @@ whole (next ∷ keys) key r v end once fits names ends =
     let rest = lines_of v (next ∷ keys) ++ end in
     let others = once_more r key (name_for key v) (next ∷ keys) once in
     let cut : lines_of v (key ∷ next ∷ keys) ++ end ≡ key_text key ++ (name_for key v ++ 10 ∷ rest) =
-        append_assoc (key_text key) (name_for key v ++ 10 ∷ lines_of v (next ∷ keys)) end ∙ ap (λ x. key_text key ++ x) (append_assoc (name_for key v) (10 ∷ lines_of v (next ∷ keys)) end) in
+    append_assoc (key_text key) (name_for key v ++ 10 ∷ lines_of v (next ∷ keys)) end ∙ ap (λ x. key_text key ++ x) (append_assoc (name_for key v) (10 ∷ lines_of v (next ∷ keys)) end) in
     ap (accept (in_key r [])) cut
     ∙ (line_read r key (name_for key v) (10 ∷ rest) (first_open r key (next ∷ keys) once) (names key) (inr (rest, refl))
     ∙ (next_line l rest (still_open l next (first_open l next keys others)) ∙ whole keys next l v end others (fits_more r key v fits) names ends))

@@ -97,8 +97,13 @@ keyword_rest at is no_name r w ws (c ∷ cs) v e =
     longer : KeywordRead r at (w ∷ (ws ++ to_ascii_lowercase c ∷ [])) cs v → KeywordRead r at (w ∷ ws) (c ∷ cs) v
     longer q =
         let same : w ∷ ((ws ++ to_ascii_lowercase c ∷ []) ++ map to_ascii_lowercase q.word) ≡ w ∷ (ws ++ map to_ascii_lowercase (c ∷ q.word)) = ap (λ x. w ∷ x) (append_assoc ws (to_ascii_lowercase c ∷ []) (map to_ascii_lowercase q.word)) in
-        record { word = c ∷ q.word; rest = q.rest; is = ap (λ x. c ∷ x) q.is; whole = subst (λ x. choice.is_keyword at x ≡ true) same q.whole;
-            more = subst (λ x. From (choice.finished_at at (within r at x)) v q.rest) same q.more }
+        record {
+          word = c ∷ q.word;
+          rest = q.rest;
+          is = ap (λ x. c ∷ x) q.is;
+          whole = subst (λ x. choice.is_keyword at x ≡ true) same q.whole;
+          more = subst (λ x. From (choice.finished_at at (within r at x)) v q.rest) same q.more;
+        }
 
     ends : choice.is_keyword at (w ∷ ws) ≡ true → option_and_then (on cs) (choice.fresh (choice.finished_at at (within r at (w ∷ ws))) c) ≡ Some v → KeywordRead r at (w ∷ ws) (c ∷ cs) v
     ends u g =
@@ -153,8 +158,14 @@ name_rest at is name r w ws (c ∷ cs) v short e =
     longer : is_name_character c ≡ true → NameRead r at (w ∷ (ws ++ c ∷ [])) cs v → NameRead r at (w ∷ ws) (c ∷ cs) v
     longer t q =
         let same : w ∷ ((ws ++ c ∷ []) ++ q.word) ≡ w ∷ (ws ++ c ∷ q.word) = ap (λ x. w ∷ x) (append_assoc ws (c ∷ []) q.word) in
-        record { word = c ∷ q.word; rest = q.rest; is = ap (λ x. c ∷ x) q.is; all = rw t q.all; short = subst (λ x. nat_le (length x) 50 ≡ true) same q.short;
-            more = subst (λ x. From (choice.finished_at at (within r at x)) v q.rest) same q.more }
+        record {
+          word = c ∷ q.word;
+          rest = q.rest;
+          is = ap (λ x. c ∷ x) q.is;
+          all = rw t q.all;
+          short = subst (λ x. nat_le (length x) 50 ≡ true) same q.short;
+          more = subst (λ x. From (choice.finished_at at (within r at x)) v q.rest) same q.more;
+        }
 
     ends : option_and_then (on cs) (choice.fresh (choice.finished_at at (within r at (w ∷ ws))) c) ≡ Some v → NameRead r at (w ∷ ws) (c ∷ cs) v
     ends g =
@@ -255,7 +266,7 @@ quoted_read r t (c ∷ []) v e = branch (on []) v (c == 39) _ _ (λ u f. absurd 
 quoted_read r t (c ∷ d ∷ cs) v e =
     branch (on (d ∷ cs)) v (c == 39) _ _
     (λ u f. branch (on cs) v (d == 39) _ _ (λ w g. twice (eqb-true c 39 u) (eqb-true d 39 w) (quoted_read r (t ++ d ∷ []) cs v g))
-        (λ w g. record { word = []; rest = d ∷ cs; is = ap (λ x. x ∷ d ∷ cs) (eqb-true c 39 u); more = rw (append-nil t) g }) f)
+    (λ w g. record { word = []; rest = d ∷ cs; is = ap (λ x. x ∷ d ∷ cs) (eqb-true c 39 u); more = rw (append-nil t) g }) f)
     (λ u f. once u (quoted_read r (t ++ c ∷ []) (d ∷ cs) v f)) e
   where
     twice : c ≡ 39 → d ≡ 39 → QuotedRead r (t ++ d ∷ []) cs v → QuotedRead r t (c ∷ d ∷ cs) v
@@ -460,7 +471,10 @@ select_read r cs v e =
     let (table, also) = w.4 in
     let all = where_read (record r { column = column; table = table }) also.1 v also.4 in
     record {
-      column = column; table = table; conditions = all.conditions; made_is = all.made_is;
+      column = column;
+      table = table;
+      conditions = all.conditions;
+      made_is = all.made_is;
       is = (p.0, p.1, p.2, p.3, (q.0, q.1, q.2, q.3, (s.0, s.1, s.2, s.3, (named.0, named.1, named.2, named.3, (t.0, t.1, t.2, t.3, (u.0, u.1, u.2, u.3, (w.0, w.1, w.2, w.3, (also.0, also.1, also.2, also.3, all.is))))))));
     }
 
@@ -479,6 +493,40 @@ sound cs v e =
     let z = sign_read slot.Open 40 slot.Select at_open (record choice.beginning { by = by }) false y.1 v y.4 in
     let o = z.4 in
     let all = select_read (record choice.beginning { by = by }) o.1 v o.4 in
-    subst (λ choice. IsSubselectForm cs choice) (sym all.made_is)
-    (p.0, p.1, p.2, p.3, (q.0, q.1, q.2, q.3, (s.0, s.1, s.2, s.3, (t.0, t.1, t.2, t.3, (u.0, u.1, u.2, u.3, (w.0, w.1, w.2, w.3 ∙ which_is word.0 word.1,
-    (x.0, x.1, x.2, x.3, (y.0, y.1, y.2, y.3, (z.0, z.1, z.2, z.3, (o.0, o.1, o.2, o.3, all.is))))))))))
+    subst (λ choice. IsSubselectForm cs choice) (sym all.made_is) (
+      p.0,
+      p.1,
+      p.2,
+      p.3,
+      (
+        q.0,
+        q.1,
+        q.2,
+        q.3,
+        (
+          s.0,
+          s.1,
+          s.2,
+          s.3,
+          (
+            t.0,
+            t.1,
+            t.2,
+            t.3,
+            (
+              u.0,
+              u.1,
+              u.2,
+              u.3,
+              (
+                w.0,
+                w.1,
+                w.2,
+                w.3 ∙ which_is word.0 word.1,
+                (x.0, x.1, x.2, x.3, (y.0, y.1, y.2, y.3, (z.0, z.1, z.2, z.3, (o.0, o.1, o.2, o.3, all.is)))),
+              ),
+            ),
+          ),
+        ),
+      ),
+    )

@@ -340,8 +340,14 @@ or_true true b e = refl
 or_true false b e = e
 
 keyword_node : IsKeywordOf slot.Which 110 (codes "ode_id")
-keyword_node = record { slot_is = at_which; no_name = refl; begins = λ r c e. rw (letter_no_spacing c 110 e refl, e) refl;
-    fronts = λ text rest e. or_true (choice.is_front (codes "external_id") text) (choice.is_front (codes "node_id") text) (front_is (codes "node_id") text rest e); last = λ c. refl; whole = refl }
+keyword_node = record {
+  slot_is = at_which;
+  no_name = refl;
+  begins = λ r c e. rw (letter_no_spacing c 110 e refl, e) refl;
+  fronts = λ text rest e. or_true (choice.is_front (codes "external_id") text) (choice.is_front (codes "node_id") text) (front_is (codes "node_id") text rest e);
+  last = λ c. refl;
+  whole = refl;
+}
 
 keyword_in : IsKeywordOf slot.In 105 (codes "n")
 keyword_in = record { slot_is = at_in; no_name = refl; begins = λ r c e. rw (letter_no_spacing c 105 e refl, e) refl; fronts = λ text rest e. front_is (codes "in") text rest e; last = λ c. refl; whole = refl }
@@ -379,7 +385,7 @@ over_where r conditions text (a, t1, e1, gap, (word, t2, e2, letters, (b, t3, e3
 -- from `select` on
 over_select : (r : Reading) (column table : List ℕ) (conditions : List Condition) (text : List ℕ)
     → (Spacing ▸ Keyword (codes "select") ▸ Gap ▸ Name column ▸ Gap ▸ Keyword (codes "from") ▸ Gap ▸ Name table
-        ▸ Gap ▸ Keyword (codes "where") ▸ Gap ▸ ConditionsOf conditions ▸ Spacing ▸ Exactly (codes ")") ▸ Spacing) text
+    ▸ Gap ▸ Keyword (codes "where") ▸ Gap ▸ ConditionsOf conditions ▸ Spacing ▸ Exactly (codes ")") ▸ Spacing) text
     → accept (before r slot.Select true) text ≡ Some (made (record r { column = column; table = table }) conditions)
 over_select r column table conditions text (a, t1, e1, all, (word, t2, e2, letters, (b, t3, e3, gap, (name, t4, e4, named, (c, t5, e5, more, (from, t6, e6, also, (d, t7, e7, third, (other, t8, e8, tabled, rest)))))))) =
     let with_column = record r { column = column } in

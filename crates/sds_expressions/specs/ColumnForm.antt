@@ -10,7 +10,11 @@ use Rattle.sds_expressions.specs.Forms.{Form, ◌▸◌, Exactly, AnyOf}
 abbrev pub is_space : ℕ → Bool
 is_space c = c == 32
 
--- The name of a column, with `OLD_` before it where its old value is asked for. Any other name doesn't begin so.
+abbrev pub Spaces : Form
+Spaces = AnyOf is_space
+
+-- The name of a column, with `OLD_` before it where its old value is asked for. Any other name
+-- doesn't begin so.
 abbrev pub begins_old : List ℕ → Bool
 begins_old text = starts_with (λ a b. a == b) text (codes "OLD_")
 
@@ -37,17 +41,22 @@ doubled (c ∷ cs) = if c == 39 then 39 ∷ 39 ∷ doubled cs else c ∷ doubled
 abbrev pub quoted : List ℕ → List ℕ
 quoted text = 39 ∷ (doubled text ++ 39 ∷ [])
 
+-- a bare text stands for itself; `NULL` is none
+abbrev pub IsBareText : List ℕ → List ℕ → Type 0
+IsBareText text value = (text ≡ value) × (is_bare value ≡ true) × (value ≢ codes "NULL")
+
 -- what a column is compared with
 abbrev pub ValueOf : Operand → Form
 ValueOf NodeId = Exactly (codes ":NODE_ID")
 ValueOf ExternalId = Exactly (codes ":EXTERNAL_ID")
 ValueOf NodeGroupId = Exactly (codes ":NODE_GROUP_ID")
 ValueOf Null = Exactly (codes "NULL")
-ValueOf (Text value) = λ text. ((text ≡ value) × (is_bare value ≡ true) × (value ≢ codes "NULL")) ⊎ (text ≡ quoted value)
+ValueOf (Text value) = λ text. IsBareText text value ⊎ (text ≡ quoted value)
 
 -- a name, a sign and a value, with any number of spaces round each
 abbrev pub TestOf : ColumnTest → Form
-TestOf test = AnyOf is_space ▸ NameOf test.old test.name ▸ AnyOf is_space ▸ SignOf test.differs ▸ AnyOf is_space ▸ ValueOf test.operand ▸ AnyOf is_space
+TestOf test =
+    Spaces ▸ NameOf test.old test.name ▸ Spaces ▸ SignOf test.differs ▸ Spaces ▸ ValueOf test.operand ▸ Spaces
 
 -- what joins two tests
 abbrev pub IsJoint : Form

@@ -1,4 +1,4 @@
--- The form of a `lookuptable` router's expression: four lines, each a key with its name, in any order.
+-- The form of a `lookuptable` router's expression: four lines, each a key with a name, in any order.
 use Rattle.std.specs.Prelude.{◌≡◌, ◌⊎◌, ◌+◌, ℕ, Bool, true, false, if◌then◌else◌, List, [], ◌∷◌, ◌++◌, codes}
 use Rattle.sds_types.specs.declared.lookup.Lookup.{Lookup}
 use Rattle.sds_value.specs.Names.{is_name_text}
@@ -39,7 +39,8 @@ IsOrder keys = (key : LookupKey) → count_of key keys ≡ 1
 abbrev pub lines_of : Lookup → List LookupKey → List ℕ
 lines_of lookup [] = []
 lines_of lookup (key ∷ []) = key_text key ++ name_for key lookup
-lines_of lookup (key ∷ next ∷ keys) = key_text key ++ (name_for key lookup ++ 10 ∷ lines_of lookup (next ∷ keys))
+lines_of lookup (key ∷ next ∷ keys) =
+    key_text key ++ (name_for key lookup ++ 10 ∷ lines_of lookup (next ∷ keys))
 
 -- the names of the lookup are names
 abbrev pub HasNames : Lookup → Type 0

@@ -1,5 +1,5 @@
--- The form of a `subselect` router's expression: `c.external_id in (select COLUMN from TABLE where CONDITION and ..)`, or the
--- same with `c.node_id`.
+-- The form of a `subselect` router's expression:
+-- `c.external_id in (select COLUMN from TABLE where CONDITION and ..)`, or the same with `c.node_id`.
 use Rattle.std.specs.Prelude.{◌≡◌, ℕ, Bool, true, ◌||◌, ◌==◌, nat_le, List, [], ◌∷◌, length, map, codes}
 use Rattle.std.specs.Char.{to_ascii_lowercase}
 use Rattle.std.specs.List.{list_all}
@@ -38,7 +38,8 @@ ValueOf (Routed name) = Exactly (codes ":") ▸ Spacing ▸ Name name
 ValueOf (Text text) = Exactly (quoted text)
 
 abbrev pub ConditionOf : Condition → Form
-ConditionOf condition = Name condition.column ▸ Spacing ▸ Exactly (codes "=") ▸ Spacing ▸ ValueOf condition.value
+ConditionOf condition =
+    Name condition.column ▸ Spacing ▸ Exactly (codes "=") ▸ Spacing ▸ ValueOf condition.value
 
 -- Between a value and the next keyword. A quoted text needs no spacing after it.
 abbrev pub SpacingAfter : Compared → Form
@@ -50,11 +51,15 @@ abbrev pub ConditionsOf : List Condition → Form
 ConditionsOf [] = λ text. ⊥
 ConditionsOf (condition ∷ []) = ConditionOf condition
 ConditionsOf (condition ∷ next ∷ conditions) =
-    ConditionOf condition ▸ SpacingAfter condition.value ▸ Keyword (codes "and") ▸ Gap ▸ ConditionsOf (next ∷ conditions)
+    ConditionOf condition ▸ SpacingAfter condition.value ▸ Keyword (codes "and") ▸ Gap
+    ▸ ConditionsOf (next ∷ conditions)
 
 -- the text is an expression that says this choice
 abbrev pub IsSubselectForm : List ℕ → Subselect → Type 0
 IsSubselectForm text choice =
-    (Spacing ▸ Keyword (codes "c") ▸ Spacing ▸ Exactly (codes ".") ▸ Spacing ▸ Keyword (keyword_of choice.by) ▸ Gap ▸ Keyword (codes "in")
-    ▸ Spacing ▸ Exactly (codes "(") ▸ Spacing ▸ Keyword (codes "select") ▸ Gap ▸ Name choice.column ▸ Gap ▸ Keyword (codes "from")
-    ▸ Gap ▸ Name choice.table ▸ Gap ▸ Keyword (codes "where") ▸ Gap ▸ ConditionsOf choice.conditions ▸ Spacing ▸ Exactly (codes ")") ▸ Spacing) text
+    (Spacing ▸ Keyword (codes "c") ▸ Spacing ▸ Exactly (codes ".") ▸ Spacing ▸ Keyword (keyword_of choice.by)
+    ▸ Gap ▸ Keyword (codes "in") ▸ Spacing ▸ Exactly (codes "(")
+    ▸ Spacing ▸ Keyword (codes "select") ▸ Gap ▸ Name choice.column
+    ▸ Gap ▸ Keyword (codes "from") ▸ Gap ▸ Name choice.table
+    ▸ Gap ▸ Keyword (codes "where") ▸ Gap ▸ ConditionsOf choice.conditions
+    ▸ Spacing ▸ Exactly (codes ")") ▸ Spacing) text

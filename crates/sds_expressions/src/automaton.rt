@@ -7,22 +7,24 @@ use std::alloc::Global;
 
 /// The state of a reading, which says a value in the end.
 pub trait Automaton<T>: Drop {
-    ghost use Rattle.std.specs.Prelude.{◌≡◌, ℕ, Option, Some, None, IfOk, if◌then◌else◌};
+    ghost use Rattle.std.specs.Prelude.{◌≡◌, ℕ, Option, IfOk};
+    ghost use Rattle.sds_expressions.specs.Automaton.{LeadsTo};
 
     ghost step: { Self → ℕ → Option Self };
+
     ghost finish: { Self → Option T };
 
     /// Reads a character, and says whether a continuation has the form.
     fn read(&mut self, alloc: Global, c: char) -> Result<bool, NoMemory>
-        ensures { IfOk result (λ goes. (if goes then Some self.new else None) ≡ step self.old c) };
+        ensures { LeadsTo result self.new (step self.old c) };
 
     /// What a text says that ends here, where it may.
     fn end(self, alloc: Global) -> Result<Option<T>, NoMemory>
         ensures { IfOk result (λ value. value ≡ finish self) };
 }
 
-/// Reads a text from its first state: what it says, or the place of the first character, from 0, from which no continuation
-/// has the form; where the text ends too early that is its length.
+/// Reads a text from its first state: what it says, or the place of the first character, from 0, from
+/// which no continuation has the form; where the text ends too early that is its length.
 pub fn read_text<T: Drop, A: Automaton<T>>(
     alloc: Global,
     first: A,

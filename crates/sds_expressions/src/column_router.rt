@@ -1,10 +1,11 @@
 ghost use Rattle.std.specs.Prelude.{◌≡◌, ◌∷◌, [], IfOk, if◌then◌else◌};
 ghost use Rattle.std.specs.Str.{chars};
+ghost use Rattle.sds_expressions.specs.Automaton.{LeadsTo};
 ghost use Rattle.sds_expressions.specs.BadPlaces.{ReadsAs};
 ghost use Rattle.sds_expressions.specs.ColumnForm.{IsColumnForm, begins_old, is_bare_character};
 ghost use Rattle.sds_expressions.specs.ColumnRouter as wanted;
 
-use crate::automaton::{read_text, Automaton};
+use crate::automaton::{Automaton, read_text};
 use crate::letters::{begins, characters_of, is_name_character, one, text_of};
 use sds_base::{List, NoMemory};
 use sds_types::{ColumnTest, Operand};
@@ -71,6 +72,7 @@ pub fn column_tests(alloc: Global, text: &str) -> Result<Result<List<ColumnTest>
 
 impl Automaton<List<ColumnTest>> for Reading {
     ghost step = { wanted.step };
+
     ghost finish = { wanted.finish };
 
     fn read(&mut self, alloc: Global, c: char) -> Result<bool, NoMemory> {
@@ -134,7 +136,7 @@ fn last_test(
 }
 
 fn step_before(alloc: Global, reading: &mut Reading, c: char) -> Result<bool, NoMemory>
-    ensures { IfOk result (λ goes. (if goes then Some reading.new else None) ≡ wanted.step_before reading.old c) }
+    ensures { LeadsTo result reading.new (wanted.step_before reading.old c) }
 {
     if c == ' ' {
         reading.part = Part::Before;
@@ -149,7 +151,7 @@ fn step_before(alloc: Global, reading: &mut Reading, c: char) -> Result<bool, No
 }
 
 fn step_named(_alloc: Global, reading: &mut Reading, c: char) -> Result<bool, NoMemory>
-    ensures { IfOk result (λ goes. (if goes then Some reading.new else None) ≡ wanted.step_named reading.old c) }
+    ensures { LeadsTo result reading.new (wanted.step_named reading.old c) }
 {
     match c {
         ' ' => reading.part = Part::Named,
@@ -164,7 +166,7 @@ fn step_named(_alloc: Global, reading: &mut Reading, c: char) -> Result<bool, No
 }
 
 fn step_name(alloc: Global, reading: &mut Reading, c: char) -> Result<bool, NoMemory>
-    ensures { IfOk result (λ goes. (if goes then Some reading.new else None) ≡ wanted.step_name reading.old c) }
+    ensures { LeadsTo result reading.new (wanted.step_name reading.old c) }
 {
     if !is_name_character(c) {
         if !is_whole(reading.name.inner().as_slice()) {
@@ -177,7 +179,7 @@ fn step_name(alloc: Global, reading: &mut Reading, c: char) -> Result<bool, NoMe
 }
 
 fn step_bang(_alloc: Global, reading: &mut Reading, c: char) -> Result<bool, NoMemory>
-    ensures { IfOk result (λ goes. (if goes then Some reading.new else None) ≡ wanted.step_bang reading.old c) }
+    ensures { LeadsTo result reading.new (wanted.step_bang reading.old c) }
 {
     if c != '=' {
         return Ok(false);
@@ -188,7 +190,7 @@ fn step_bang(_alloc: Global, reading: &mut Reading, c: char) -> Result<bool, NoM
 }
 
 fn step_sign(alloc: Global, reading: &mut Reading, c: char) -> Result<bool, NoMemory>
-    ensures { IfOk result (λ goes. (if goes then Some reading.new else None) ≡ wanted.step_sign reading.old c) }
+    ensures { LeadsTo result reading.new (wanted.step_sign reading.old c) }
 {
     if c == ' ' {
         return Ok(true);
@@ -212,7 +214,7 @@ fn step_sign(alloc: Global, reading: &mut Reading, c: char) -> Result<bool, NoMe
 }
 
 fn step_colon(alloc: Global, reading: &mut Reading, c: char) -> Result<bool, NoMemory>
-    ensures { IfOk result (λ goes. (if goes then Some reading.new else None) ≡ wanted.step_colon reading.old c) }
+    ensures { LeadsTo result reading.new (wanted.step_colon reading.old c) }
 {
     let mut longer = List::of(reading.text.inner().as_slice().to_vec(alloc)?);
     longer.push(c)?;
@@ -225,7 +227,7 @@ fn step_colon(alloc: Global, reading: &mut Reading, c: char) -> Result<bool, NoM
 }
 
 fn step_bare(alloc: Global, reading: &mut Reading, c: char) -> Result<bool, NoMemory>
-    ensures { IfOk result (λ goes. (if goes then Some reading.new else None) ≡ wanted.step_bare reading.old c) }
+    ensures { LeadsTo result reading.new (wanted.step_bare reading.old c) }
 {
     if is_bare_character(c) {
         reading.text.push(c)?;
@@ -236,7 +238,7 @@ fn step_bare(alloc: Global, reading: &mut Reading, c: char) -> Result<bool, NoMe
 }
 
 fn step_quoted(_alloc: Global, reading: &mut Reading, c: char) -> Result<bool, NoMemory>
-    ensures { IfOk result (λ goes. (if goes then Some reading.new else None) ≡ wanted.step_quoted reading.old c) }
+    ensures { LeadsTo result reading.new (wanted.step_quoted reading.old c) }
 {
     if c == '\'' {
         reading.part = Part::Quote;
@@ -247,7 +249,7 @@ fn step_quoted(_alloc: Global, reading: &mut Reading, c: char) -> Result<bool, N
 }
 
 fn step_quote(alloc: Global, reading: &mut Reading, c: char) -> Result<bool, NoMemory>
-    ensures { IfOk result (λ goes. (if goes then Some reading.new else None) ≡ wanted.step_quote reading.old c) }
+    ensures { LeadsTo result reading.new (wanted.step_quote reading.old c) }
 {
     if c == '\'' {
         reading.text.push(c)?;
@@ -259,7 +261,7 @@ fn step_quote(alloc: Global, reading: &mut Reading, c: char) -> Result<bool, NoM
 }
 
 fn step_behind(_alloc: Global, reading: &mut Reading, c: char) -> Result<bool, NoMemory>
-    ensures { IfOk result (λ goes. (if goes then Some reading.new else None) ≡ wanted.step_behind reading.old c) }
+    ensures { LeadsTo result reading.new (wanted.step_behind reading.old c) }
 {
     match c {
         ' ' => {}
@@ -271,7 +273,7 @@ fn step_behind(_alloc: Global, reading: &mut Reading, c: char) -> Result<bool, N
 }
 
 fn step_letter(_alloc: Global, reading: &mut Reading, c: char) -> Result<bool, NoMemory>
-    ensures { IfOk result (λ goes. (if goes then Some reading.new else None) ≡ wanted.step_letter reading.old c) }
+    ensures { LeadsTo result reading.new (wanted.step_letter reading.old c) }
 {
     if c != 'r' {
         return Ok(false);
@@ -281,7 +283,7 @@ fn step_letter(_alloc: Global, reading: &mut Reading, c: char) -> Result<bool, N
 }
 
 fn step_joined(_alloc: Global, reading: &mut Reading, c: char) -> Result<bool, NoMemory>
-    ensures { IfOk result (λ goes. (if goes then Some reading.new else None) ≡ wanted.step_joined reading.old c) }
+    ensures { LeadsTo result reading.new (wanted.step_joined reading.old c) }
 {
     if c != ' ' {
         return Ok(false);
@@ -297,7 +299,7 @@ fn ended(
     c: char,
     operand: Option<Operand>,
 ) -> Result<bool, NoMemory>
-    ensures { IfOk result (λ goes. (if goes then Some reading.new else None) ≡ wanted.ended reading.old c operand) }
+    ensures { LeadsTo result reading.new (wanted.ended reading.old c operand) }
 {
     let Some(operand) = operand else {
         return Ok(false);

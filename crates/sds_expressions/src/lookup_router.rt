@@ -1,11 +1,12 @@
 ghost use Rattle.std.specs.Prelude.{◌≡◌, ◌==◌, IfOk, if◌then◌else◌};
 ghost use Rattle.std.specs.Str.{bytes_eq, chars};
 ghost use Rattle.std.specs.List.{starts_with};
+ghost use Rattle.sds_expressions.specs.Automaton.{LeadsTo};
 ghost use Rattle.sds_expressions.specs.BadPlaces.{ReadsAs};
 ghost use Rattle.sds_expressions.specs.LookupForm.{IsLookupForm, key_text};
 ghost use Rattle.sds_expressions.specs.LookupRouter as wanted;
 
-use crate::automaton::{read_text, Automaton};
+use crate::automaton::{Automaton, read_text};
 use crate::letters::{begins, characters_of, is_name_character, text_of};
 use sds_base::{List, NoMemory, Txt};
 use sds_types::Lookup;
@@ -66,6 +67,7 @@ pub fn lookup_text(alloc: Global, text: &str) -> Result<Result<Lookup, usize>, N
 
 impl Automaton<Lookup> for Reading {
     ghost step = { wanted.step };
+
     ghost finish = { wanted.finish };
 
     fn read(&mut self, alloc: Global, c: char) -> Result<bool, NoMemory> {
@@ -131,7 +133,7 @@ fn lookup_of(reading: Reading) -> Option<Lookup>
 }
 
 fn step_key(alloc: Global, reading: &mut Reading, c: char) -> Result<bool, NoMemory>
-    ensures { IfOk result (λ goes. (if goes then Some reading.new else None) ≡ wanted.step_key reading.old c) }
+    ensures { LeadsTo result reading.new (wanted.step_key reading.old c) }
 {
     let mut word = List::of(reading.word.inner().as_slice().to_vec(alloc)?);
     word.push(c)?;
@@ -155,7 +157,7 @@ fn longer(reading: &mut Reading, word: List<char>) -> bool
 }
 
 fn step_name(alloc: Global, reading: &mut Reading, c: char) -> Result<bool, NoMemory>
-    ensures { IfOk result (λ goes. (if goes then Some reading.new else None) ≡ wanted.step_name reading.old c) }
+    ensures { LeadsTo result reading.new (wanted.step_name reading.old c) }
 {
     if is_name_character(c) {
         let goes = reading.word.inner().len() < 50;

@@ -1,10 +1,11 @@
 ghost use Rattle.std.specs.Prelude.{◌≡◌, true, false, IfOk, OnOk, if◌then◌else◌};
 ghost use Rattle.std.specs.Str.{chars};
+ghost use Rattle.sds_expressions.specs.Automaton.{LeadsTo};
 ghost use Rattle.sds_expressions.specs.BadPlaces.{ReadsAs};
 ghost use Rattle.sds_expressions.specs.SubselectForm.{IsSubselectForm, is_spacing};
 ghost use Rattle.sds_expressions.specs.SubselectRouter as wanted;
 
-use crate::automaton::{read_text, Automaton};
+use crate::automaton::{Automaton, read_text};
 use crate::letters::{begins, characters_of, is_name_character, one, text_of};
 use sds_base::{List, NoMemory};
 use sds_types::{Compared, Condition, NodeColumn, Subselect};
@@ -94,6 +95,7 @@ pub fn subselect_text(alloc: Global, text: &str) -> Result<Result<Subselect, usi
 
 impl Automaton<Subselect> for Reading {
     ghost step = { wanted.step };
+
     ghost finish = { wanted.finish };
 
     fn read(&mut self, alloc: Global, c: char) -> Result<bool, NoMemory> {
@@ -133,7 +135,7 @@ fn beginning(alloc: Global) -> Reading
 }
 
 fn outside(alloc: Global, reading: &mut Reading, c: char) -> Result<bool, NoMemory>
-    ensures { IfOk result (λ goes. (if goes then Some reading.new else None) ≡ wanted.outside reading.old.word reading.old c) }
+    ensures { LeadsTo result reading.new (wanted.outside reading.old.word reading.old c) }
 {
     if reading.word.inner().is_empty() {
         return fresh(alloc, reading, c);
@@ -145,7 +147,7 @@ fn outside(alloc: Global, reading: &mut Reading, c: char) -> Result<bool, NoMemo
 }
 
 fn in_quotes(_alloc: Global, reading: &mut Reading, c: char) -> Result<bool, NoMemory>
-    ensures { IfOk result (λ goes. (if goes then Some reading.new else None) ≡ wanted.in_quotes reading.old c) }
+    ensures { LeadsTo result reading.new (wanted.in_quotes reading.old c) }
 {
     if c == '\'' {
         reading.slot = Slot::Quote;
@@ -156,7 +158,7 @@ fn in_quotes(_alloc: Global, reading: &mut Reading, c: char) -> Result<bool, NoM
 }
 
 fn behind_quote(alloc: Global, reading: &mut Reading, c: char) -> Result<bool, NoMemory>
-    ensures { IfOk result (λ goes. (if goes then Some reading.new else None) ≡ wanted.behind_quote reading.old c) }
+    ensures { LeadsTo result reading.new (wanted.behind_quote reading.old c) }
 {
     if c == '\'' {
         reading.word.push(c)?;
@@ -169,7 +171,7 @@ fn behind_quote(alloc: Global, reading: &mut Reading, c: char) -> Result<bool, N
 }
 
 fn in_name(alloc: Global, reading: &mut Reading, c: char) -> Result<bool, NoMemory>
-    ensures { IfOk result (λ goes. (if goes then Some reading.new else None) ≡ wanted.in_name reading.old c) }
+    ensures { LeadsTo result reading.new (wanted.in_name reading.old c) }
 {
     if is_name_character(c) {
         let goes = reading.word.inner().len() < 50;
@@ -181,7 +183,7 @@ fn in_name(alloc: Global, reading: &mut Reading, c: char) -> Result<bool, NoMemo
 }
 
 fn in_keyword(alloc: Global, reading: &mut Reading, c: char) -> Result<bool, NoMemory>
-    ensures { IfOk result (λ goes. (if goes then Some reading.new else None) ≡ wanted.in_keyword reading.old c) }
+    ensures { LeadsTo result reading.new (wanted.in_keyword reading.old c) }
 {
     let mut word = List::of(reading.word.inner().as_slice().to_vec(alloc)?);
     word.push(c.to_ascii_lowercase())?;
@@ -197,7 +199,7 @@ fn in_keyword(alloc: Global, reading: &mut Reading, c: char) -> Result<bool, NoM
 }
 
 fn fresh(alloc: Global, reading: &mut Reading, c: char) -> Result<bool, NoMemory>
-    ensures { IfOk result (λ goes. (if goes then Some reading.new else None) ≡ wanted.fresh reading.old c) }
+    ensures { LeadsTo result reading.new (wanted.fresh reading.old c) }
 {
     match reading.slot {
         Slot::Dot => Ok(sign(alloc, reading, c, '.', Slot::Which)),
@@ -226,7 +228,7 @@ fn sign(alloc: Global, reading: &mut Reading, c: char, mark: char, next: Slot) -
 }
 
 fn before_keyword(alloc: Global, reading: &mut Reading, c: char) -> Result<bool, NoMemory>
-    ensures { IfOk result (λ goes. (if goes then Some reading.new else None) ≡ wanted.before_keyword reading.old c) }
+    ensures { LeadsTo result reading.new (wanted.before_keyword reading.old c) }
 {
     if is_spacing(c) {
         reading.spaced = true;
@@ -241,7 +243,7 @@ fn before_keyword(alloc: Global, reading: &mut Reading, c: char) -> Result<bool,
 }
 
 fn before_name(alloc: Global, reading: &mut Reading, c: char) -> Result<bool, NoMemory>
-    ensures { IfOk result (λ goes. (if goes then Some reading.new else None) ≡ wanted.before_name reading.old c) }
+    ensures { LeadsTo result reading.new (wanted.before_name reading.old c) }
 {
     if is_spacing(c) {
         reading.spaced = true;
@@ -255,7 +257,7 @@ fn before_name(alloc: Global, reading: &mut Reading, c: char) -> Result<bool, No
 }
 
 fn before_next(alloc: Global, reading: &mut Reading, c: char) -> Result<bool, NoMemory>
-    ensures { IfOk result (λ goes. (if goes then Some reading.new else None) ≡ wanted.before_next reading.old c) }
+    ensures { LeadsTo result reading.new (wanted.before_next reading.old c) }
 {
     if c == ')' {
         put_slot(alloc, reading, Slot::Close, true);
@@ -265,7 +267,7 @@ fn before_next(alloc: Global, reading: &mut Reading, c: char) -> Result<bool, No
 }
 
 fn before_value(alloc: Global, reading: &mut Reading, c: char) -> Result<bool, NoMemory>
-    ensures { IfOk result (λ goes. (if goes then Some reading.new else None) ≡ wanted.before_value reading.old c) }
+    ensures { LeadsTo result reading.new (wanted.before_value reading.old c) }
 {
     if is_spacing(c) {
         return Ok(true);
