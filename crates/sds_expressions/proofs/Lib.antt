@@ -15,3 +15,4 @@ pub mod SubselectSound
 pub mod SubselectWhole
 pub mod Printing
 pub mod Saying
+pub mod ComputedSaying

@@ -2,6 +2,7 @@ pub mod Numbers
 pub mod Pieces
 pub mod Computed
 pub mod Forms
+pub mod ComputedForm
 pub mod ColumnForm
 pub mod LookupForm
 pub mod SubselectForm

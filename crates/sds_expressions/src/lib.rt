@@ -17,7 +17,8 @@ mod tests;
 pub use column_router::column_tests;
 pub use computed::{left_of, multiplier_of, substr_of, value_map_of, variable_of};
 pub use laws::{
-    expressions_have_names, expressions_read_by_their_form, printed_expressions_read_back,
+    column_expressions_read_by_their_form, expressions_have_names, expressions_read_by_their_form,
+    printed_expressions_read_back,
 };
 pub use lookup_router::lookup_text;
 pub use numbers::plain_number;
