@@ -16,3 +16,4 @@ pub mod SubselectWhole
 pub mod Printing
 pub mod Saying
 pub mod ComputedSaying
+pub mod Dividing

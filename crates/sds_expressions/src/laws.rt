@@ -3,12 +3,14 @@ ghost use Rattle.sds_types.specs.declared.column_test.ColumnTest.{ColumnTest};
 ghost use Rattle.sds_types.specs.declared.lookup.Lookup.{Lookup};
 ghost use Rattle.sds_types.specs.declared.subselect.Condition.{Condition};
 ghost use Rattle.sds_types.specs.declared.subselect.Subselect.{Subselect};
+ghost use Rattle.sds_types.specs.declared.transform_column.MapPair.{MapPair};
 ghost use Rattle.sds_types.specs.declared.transform_column.NodeWord.{NodeWord};
+ghost use Rattle.sds_types.specs.declared.transform_column.Substring.{Substring};
 ghost use Rattle.sds_expressions.specs.BadPlaces.{ReadsAs};
 ghost use Rattle.sds_expressions.specs.ColumnForm.{IsColumnForm};
 ghost use Rattle.sds_expressions.specs.ColumnRouter.{tests_of};
-ghost use Rattle.sds_expressions.specs.Computed.{left_of, variable_of, multiplier_of};
-ghost use Rattle.sds_expressions.specs.ComputedForm.{IsLeftForm, IsVariableForm, IsAdditiveForm};
+ghost use Rattle.sds_expressions.specs.Computed.{left_of, substr_of, value_map_of, variable_of, multiplier_of};
+ghost use Rattle.sds_expressions.specs.ComputedForm.{IsLeftForm, IsSubstrForm, IsValueMapForm, IsVariableForm, IsAdditiveForm};
 ghost use Rattle.sds_expressions.specs.LookupForm.{HasNames, IsLookupForm};
 ghost use Rattle.sds_expressions.specs.LookupRouter.{lookup_read};
 ghost use Rattle.sds_expressions.specs.Printed.{IsTest, IsChoice, text_of_tests, text_of_lookup, text_of_choice};
@@ -42,6 +44,8 @@ pub fn printed_expressions_read_back()
 /// The law that the expression of a transform's column reads exactly where it has its form, and as what it says.
 pub fn column_expressions_read_by_their_form()
     ensures left { (text : List ℕ) (n : ℕ) → (left_of text ≡ Some n) ↔ IsLeftForm text n }
+    ensures substr { (text : List ℕ) (piece : Substring) → (substr_of text ≡ Some piece) ↔ IsSubstrForm text piece }
+    ensures value_map { (text : List ℕ) (pairs : List MapPair) → (value_map_of text ≡ Some pairs) ↔ IsValueMapForm text pairs }
     ensures variable { (text : List ℕ) (node : NodeWord) → (variable_of text ≡ Some node) ↔ IsVariableForm text node }
     ensures additive { (text : List ℕ) (factor : ℤ) → (multiplier_of text ≡ Some factor) ↔ IsAdditiveForm text factor }
 {}
