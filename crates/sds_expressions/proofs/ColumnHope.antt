@@ -1,4 +1,4 @@
--- From each state of the reading of a `column` router's expression that is reached some way to go on is of the form.
+-- From each state of the reading of a `column` router's expression that is reached some way to go on has the form.
 use Rattle.std.proofs.Common.{◌≡◌, ℕ, ◌+◌, ◌⊎◌, inl, inr, Bool, true, false, ◌||◌, ◌==◌, if◌then◌else◌, nat_le, List, [], ◌∷◌, ◌++◌, length, drop, codes, Option, Some, None, Result, Err, refl, sym, ap, subst, ◌∙◌, arith}
 use Rattle.std.proofs.lemmas.Bool.{and_parts}
 use Rattle.std.proofs.lemmas.Bool.Decides.{nat_tests, Decides-eqb}
@@ -28,7 +28,7 @@ done reading tests is = readings.done column.step column.finish reading tests is
 one_more : (reading next : Reading) (c : ℕ) → column.step reading c ≡ Some next → scalar c ≡ true → CanEnd next → CanEnd reading
 one_more reading next c is good can = readings.one_more column.step column.finish reading next c is good can
 
--- in a word behind a colon stands the front of a word
+-- in a word after a colon stands a prefix of a word
 abbrev HoldsAt : Part → List ℕ → Type 0
 HoldsAt part.Colon text = column.begins_word text ≡ true
 HoldsAt other text = Unit {0}
@@ -80,7 +80,7 @@ step_kept part.Bare reading next c is holds e =
 step_kept part.Quoted reading next c is holds e = branch (c == 39) _ _ next (λ _ f. kept _ next tt f) (λ f. kept _ next (rw is tt) f) e
 step_kept part.Quote reading next c is holds e =
     branch (c == 39) _ _ next (λ _ f. kept _ next tt f) (λ f. ended reading next c (column.operand_at part.Quote reading.text) f) e
-step_kept part.Behind reading next c is holds e =
+step_kept part.After reading next c is holds e =
     branch (c == 32) _ _ next (λ _ f. kept _ next holds f) (λ f. branch (c == 10) _ _ next (λ _ g. kept _ next tt g) (λ g. branch (c == 111) _ _ next (λ _ h. kept _ next tt h) (gone next) g) f) e
 step_kept part.Letter reading next c is holds e = branch (c == 114) _ _ next (λ _ f. kept _ next tt f) (gone next) e
 step_kept part.Joined reading next c is holds e = branch (c == 32) _ _ next (λ _ f. kept _ next tt f) (gone next) e
@@ -88,7 +88,7 @@ step_kept part.Joined reading next c is holds e = branch (c == 32) _ _ next (λ 
 keeps : (reading next : Reading) (c : ℕ) → Holds reading → column.step reading c ≡ Some next → Holds next
 keeps reading next c holds e = step_kept reading.part reading next c refl holds e
 
--- behind a value, and before one
+-- after a value, and before one
 can_bare : (reading : Reading) → reading.part ≡ part.Bare → CanEnd reading
 can_bare reading is = done reading (reading.tests ++ column.test_of reading (column.bare_operand reading.text) ∷ []) (rw is refl)
 
@@ -104,7 +104,7 @@ can_sign reading is = let next = record reading { text = 98 ∷ []; part = part.
 can_bang : (reading : Reading) → reading.part ≡ part.Bang → CanEnd reading
 can_bang reading is = let next = record reading { differs = true; part = part.Sign } in one_more reading next 61 (rw is refl) refl (can_sign next refl)
 
--- behind a name, and in one
+-- after a name, and in one
 can_named : (reading : Reading) → reading.part ≡ part.Named → CanEnd reading
 can_named reading is = let next = record reading { differs = false; part = part.Sign } in one_more reading next 61 (rw is refl) refl (can_sign next refl)
 
@@ -149,7 +149,7 @@ can_joined reading is = one_more reading (column.at_part reading part.Before) 32
 can_letter : (reading : Reading) → reading.part ≡ part.Letter → CanEnd reading
 can_letter reading is = one_more reading (column.at_part reading part.Joined) 114 (rw is refl) refl (can_joined (column.at_part reading part.Joined) refl)
 
--- in a word behind a colon
+-- in a word after a colon
 abbrev IsWord : List ℕ → Type 0
 IsWord word = (word ≡ codes "NODE_ID") ⊎ ((word ≡ codes "EXTERNAL_ID") ⊎ (word ≡ codes "NODE_GROUP_ID"))
 
@@ -227,7 +227,7 @@ can_at part.Colon reading is holds = can_colon reading is holds
 can_at part.Bare reading is holds = can_bare reading is
 can_at part.Quoted reading is holds = can_quoted reading is
 can_at part.Quote reading is holds = can_quote reading is
-can_at part.Behind reading is holds = done reading reading.tests (rw is refl)
+can_at part.After reading is holds = done reading reading.tests (rw is refl)
 can_at part.Letter reading is holds = can_letter reading is
 can_at part.Joined reading is holds = can_joined reading is
 

@@ -141,7 +141,7 @@ to_bare r t (c ∷ cs) v e =
         let same : (t ++ c ∷ []) ++ q.word ≡ t ++ (c ∷ q.word) = append_assoc t (c ∷ []) q.word in
         record { word = c ∷ q.word; rest = q.rest; is = ap (λ xs. c ∷ xs) q.is; all = rw u q.all; more = subst (λ w. after (with_text r w part.Sign) (column.bare_operand w) q.rest ≡ Some v) same q.more }
 
--- a text between quotes, from behind the first quote
+-- a text between quotes, from after the first quote
 pub record QuotedRead (r : Reading) (t cs : List ℕ) (v : List ColumnTest) : Type 0 where
   pub word : List ℕ
   pub rest : List ℕ
@@ -168,7 +168,7 @@ to_quoted r t (c ∷ d ∷ cs) v e =
         let same : (t ++ c ∷ []) ++ q.word ≡ t ++ (c ∷ q.word) = append_assoc t (c ∷ []) q.word in
         record { word = c ∷ q.word; rest = q.rest; is = rw u (ap (λ xs. c ∷ xs) q.is); more = subst (λ w. after (with_text r w part.Sign) (Text w) q.rest ≡ Some v) same q.more }
 
--- a word behind a colon
+-- a word after a colon
 pub record WordRead (r : Reading) (t cs : List ℕ) (v : List ColumnTest) : Type 0 where
   pub word : List ℕ
   pub rest : List ℕ
@@ -253,7 +253,7 @@ to_value r (c ∷ cs) v e =
     bare : is_bare_character c ≡ true → BareRead r (c ∷ []) cs v → (AnyOf is_space ▸ AfterValue r v) (c ∷ cs)
     bare good q = ([], c ∷ cs, refl, refl, (column.bare_operand (c ∷ q.word), c ∷ q.word, (c ∷ q.word, q.rest, ap (λ xs. c ∷ xs) q.is, bare_of c q.word good q.all, q.more)))
 
--- spaces behind a value, and what joins the next test, or the end
+-- spaces after a value, and what joins the next test, or the end
 abbrev Tail : Reading → List ColumnTest → Form
 Tail r v rest = (IsEnd rest × (r.tests ≡ v)) ⊎ (IsJoint ▸ (λ more. accept (before r) more ≡ Some v)) rest
 
@@ -264,7 +264,7 @@ from_fresh : (r : Reading) (c : ℕ) (cs : List ℕ) (v : List ColumnTest) → c
 from_fresh r c [] v is e = inl (inr (ap (λ x. x ∷ []) is), same_tests _ _ e)
 from_fresh r c (d ∷ ds) v is e = inr (c ∷ [], d ∷ ds, refl, inr (ap (λ x. x ∷ []) is), e)
 
-from_behind : (r : Reading) (c : ℕ) (cs : List ℕ) (v : List ColumnTest) → (c == 32) ≡ true → accept (record r { part = part.Behind }) cs ≡ Some v → (AnyOf is_space ▸ Tail r v) (c ∷ cs)
+from_behind : (r : Reading) (c : ℕ) (cs : List ℕ) (v : List ColumnTest) → (c == 32) ≡ true → accept (record r { part = part.After }) cs ≡ Some v → (AnyOf is_space ▸ Tail r v) (c ∷ cs)
 from_behind r c [] v is e = (c ∷ [], [], refl, rw is refl, inl (inl refl, same_tests _ _ e))
 from_behind r c (d ∷ ds) v is e =
     branch (on ds) v (d == 32) _ _ (λ t f. in_front is_space (Tail r v) c (d ∷ ds) is (from_behind r d ds v t f))

@@ -29,7 +29,7 @@ over_value : (r : Reading) (a rest : List ℕ) → AnyOf is_space a → accept (
 over_value r [] rest all = refl
 over_value r (c ∷ cs) rest all = let (here, more) = and_parts (c == 32) (list_all is_space cs) all in rw here (over_value r cs rest more)
 
-over_behind : (r : Reading) (a rest : List ℕ) → AnyOf is_space a → accept (record r { part = part.Behind }) (a ++ rest) ≡ accept (record r { part = part.Behind }) rest
+over_behind : (r : Reading) (a rest : List ℕ) → AnyOf is_space a → accept (record r { part = part.After }) (a ++ rest) ≡ accept (record r { part = part.After }) rest
 over_behind r [] rest all = refl
 over_behind r (c ∷ cs) rest all = let (here, more) = and_parts (c == 32) (list_all is_space cs) all in rw here (over_behind r cs rest more)
 
@@ -113,7 +113,7 @@ to_word r (c ∷ cs) rest old name is =
     let (here, more) = and_parts (is_name_character c) (list_all is_name_character cs) is.all in
     begins_name r c (cs ++ rest) here ∙ over_word r [] (c ∷ cs) rest is.all is.short
 
--- behind a whole name stands a space or a sign
+-- after a whole name stands a space or a sign
 ends_name : (r : Reading) (word : List ℕ) (c : ℕ) (rest : List ℕ) → column.is_whole word ≡ true → is_name_character c ≡ false → accept (in_name r word) (c ∷ rest) ≡ accept (named r word) (c ∷ rest)
 ends_name r word c rest whole e = rw (e, whole) refl
 
@@ -207,18 +207,18 @@ value_read r (Text value) word rest (inl (e, good, other)) closed = (value, ap (
         at false f = rw f refl
 value_read r (Text value) word rest (inr e) closed = (value, ap (λ w. accept (record r { part = part.Sign }) (w ++ rest)) e ∙ quoted_read r value rest closed)
 
--- spaces behind a value
+-- spaces after a value
 closed_spaces : (a rest : List ℕ) → AnyOf is_space a → Closed rest → Closed (a ++ rest)
 closed_spaces [] rest all closed = closed
 closed_spaces (c ∷ cs) rest all closed = let (here, more) = and_parts (c == 32) (list_all is_space cs) all in inr (inl (cs ++ rest, ap (λ x. x ∷ cs ++ rest) (eqb-true c 32 here)))
 
-after_spaces : (r : Reading) (operand : Operand) (c : ℕ) (cs rest : List ℕ) → AnyOf is_space (c ∷ cs) → after r operand ((c ∷ cs) ++ rest) ≡ accept (record (tested r operand) { part = part.Behind }) rest
+after_spaces : (r : Reading) (operand : Operand) (c : ℕ) (cs rest : List ℕ) → AnyOf is_space (c ∷ cs) → after r operand ((c ∷ cs) ++ rest) ≡ accept (record (tested r operand) { part = part.After }) rest
 after_spaces r operand c cs rest all = let (here, more) = and_parts (c == 32) (list_all is_space cs) all in rw here (over_behind (tested r operand) cs rest more)
 
--- what the rest of an expression gives behind a test
+-- what the rest of an expression gives after a test
 abbrev tests_of : Reading → List ℕ → Option (List ColumnTest)
 tests_of r [] = Some r.tests
-tests_of r (c ∷ cs) = accept (record r { part = part.Behind }) (c ∷ cs)
+tests_of r (c ∷ cs) = accept (record r { part = part.After }) (c ∷ cs)
 
 behind : (r : Reading) (operand : Operand) (a rest : List ℕ) → AnyOf is_space a → Closed rest → after r operand (a ++ rest) ≡ tests_of (tested r operand) rest
 behind r operand [] rest all (inl e) = rw e refl
@@ -272,7 +272,7 @@ closed_joint : (joint rest : List ℕ) → IsJoint joint → Closed (joint ++ re
 closed_joint joint rest (inl e) = inr (inl (111 ∷ 114 ∷ 32 ∷ rest, ap (λ x. x ++ rest) e))
 closed_joint joint rest (inr e) = inr (inr (rest, ap (λ x. x ++ rest) e))
 
--- some text stands behind a joint
+-- some text stands after a joint
 over_joint : (r : Reading) (joint rest : List ℕ) → IsJoint joint → (v : List ColumnTest) → accept (before r) rest ≡ Some v → tests_of r (joint ++ rest) ≡ Some v
 over_joint r joint rest (inl e) v f = rw e f
 over_joint r joint [] (inr e) v f = absurd (cc)

@@ -1,4 +1,4 @@
--- From each state of the reading of a `lookuptable` router's expression that is reached some way to go on is of the form.
+-- From each state of the reading of a `lookuptable` router's expression that is reached some way to go on has the form.
 use Rattle.std.proofs.Common.{◌≡◌, ℕ, zero, suc, ◌+◌, ◌≤◌, Bool, true, false, not, ◌&&◌, ◌||◌, ◌==◌, if◌then◌else◌, nat_lt, List, [], ◌∷◌, ◌++◌, length, drop, codes, Option, Some, None, is_some, Result, Err, refl, sym, ap, subst, ◌∙◌, arith}
 use Rattle.std.proofs.lemmas.Bool.{and_parts}
 use Rattle.std.proofs.lemmas.Bool.Decides.{nat_tests}
@@ -29,7 +29,7 @@ done reading value is = readings.done lookup.step lookup.finish reading value is
 one_more : (reading next : Reading) (c : ℕ) → lookup.step reading c ≡ Some next → scalar c ≡ true → CanEnd next → CanEnd reading
 one_more reading next c is good can = readings.one_more lookup.step lookup.finish reading next c is good can
 
--- before a name stands a proper front of a key whose line is still to come; behind the last line all four names are there
+-- before a name stands a proper prefix of a key whose line is still to come; after the last line all four names are there
 record InKey (reading : Reading) : Type 0 where
   key : LookupKey
   more : ℕ
@@ -98,7 +98,7 @@ no_key Column false false false false e = refl
 no_key LookupColumn false false false false e = refl
 no_key ExternalId false false false false e = refl
 
--- no key is a proper front of a key
+-- no key is a proper prefix of a key
 no_true : false ≡ true → ⊥
 no_true e = cc
 
@@ -146,7 +146,7 @@ begins_key key reading word rest still e =
     any_of key (lookup.begins_key reading word Table) (lookup.begins_key reading word Column) (lookup.begins_key reading word LookupColumn) (lookup.begins_key reading word ExternalId)
     (chosen_is key (lookup.begins_key reading word) ∙ this)
 
--- in a key, and behind a line
+-- in a key, and after a line
 key_holds : (reading : Reading) → reading.part ≡ part.Key → InKey reading → Holds reading
 key_holds reading is holds = subst (λ (at : Part). HoldsAt at reading) (sym is) holds
 
@@ -194,7 +194,7 @@ key_to_come reading e =
     let found = still_open reading.table reading.column reading.lookup_column reading.external_id e in
     (found.0, sym (chosen_is found.0 (lookup.is_open reading)) ∙ found.1)
 
-line_kept : (line : Reading) (value : Option Lookup) → lookup.lookup_of line ≡ value → HoldsAt (lookup.part_behind value) (lookup.next_line line)
+line_kept : (line : Reading) (value : Option Lookup) → lookup.lookup_of line ≡ value → HoldsAt (lookup.part_after value) (lookup.next_line line)
 line_kept line (Some value) e = (value, e)
 line_kept line None e =
     let found = key_to_come (lookup.next_line line) e in
@@ -273,7 +273,7 @@ can_key most name (d ∷ rest) c reading key is still e few =
     one_more reading next c (rw (is, not_whole key reading word d rest longer, begins_key key reading word (d ∷ rest) still longer) refl) (and_parts (scalar c) (all_scalars (d ∷ rest)) good).0
     (can_key most name rest d next key is (more_open key reading word still) longer few)
 
--- from a name with a character behind its line
+-- from a name with a character after its line
 is_long : (word : List ℕ) (w : ℕ) (ws : List ℕ) → word ≡ w ∷ ws → nat_lt 0 (length word) ≡ true
 is_long word w ws e = rw e (longer (length ws))
   where

@@ -195,7 +195,7 @@ record LinesRead (r : Reading) (cs : List ℕ) (v : Lookup) : Type 0 where
   names : (key : LookupKey) → lookup.is_open r key ≡ true → is_name_text (name_for key v) ≡ true
   is : (cs ≡ lines_of v (first ∷ others)) ⊎ (cs ≡ lines_of v (first ∷ others) ++ 10 ∷ [])
 
--- what is known behind a line, at the last one or another
+-- what is known after a line, at the last one or another
 record Rest (r : Reading) (keys : List LookupKey) (v : Lookup) : Type 0 where
   once : (key : LookupKey) → count_of key keys ≡ waits (lookup.is_open r key)
   fits : Fits r v
@@ -315,7 +315,7 @@ with_line r cs v q p again = by p.rest refl p.more
         }
 
     at : (o : Option Lookup) → lookup.lookup_of (line r q.key p.word) ≡ o → (c : ℕ) (more : List ℕ) → p.rest ≡ c ∷ more → c ≡ 10
-        → accept (record (line r q.key p.word) { word = []; part = lookup.part_behind o }) more ≡ Some v → LinesRead r cs v
+        → accept (record (line r q.key p.word) { word = []; part = lookup.part_after o }) more ≡ Some v → LinesRead r cs v
     at (Some w) is c more e ten f = ends c more e ten f
     at None is c more e ten f = others c more e ten (again more c e f)
 

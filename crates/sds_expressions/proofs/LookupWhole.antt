@@ -45,7 +45,7 @@ over_name r key w (c ∷ cs) rest all short =
 counts : (c : ℕ) (cs : List ℕ) → nat_lt 0 (length (c ∷ cs)) ≡ true
 counts c cs = grind (arith, nat_tests)
 
--- a line, and what may stand behind it
+-- a line, and what may stand after it
 abbrev Closed : List ℕ → Type 0
 Closed rest = (rest ≡ []) ⊎ ((more : List ℕ) × (rest ≡ 10 ∷ more))
 

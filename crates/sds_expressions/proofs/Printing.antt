@@ -38,10 +38,37 @@ operand_written operand.Null = refl
 operand_written (operand.Text text) = inr refl
 
 test_written : (test : ColumnTest) → IsTest test → TestOf test (text_of_test test)
-test_written test is =
-    ([], text_of_test test, refl, refl, (text_of_name test.old test.name, _, refl, name_written test.old test.name is.named is.current,
-    (codes " ", _, refl, refl, (text_of_sign test.differs, _, refl, sign_written test.differs, (codes " ", _, refl, refl,
-    (text_of_operand test.operand, [], sym (append-nil (text_of_operand test.operand)), operand_written test.operand, refl))))))
+test_written test is = (
+  [],
+  text_of_test test,
+  refl,
+  refl,
+  (
+    text_of_name test.old test.name,
+    _,
+    refl,
+    name_written test.old test.name is.named is.current,
+    (
+      codes " ",
+      _,
+      refl,
+      refl,
+      (
+        text_of_sign test.differs,
+        _,
+        refl,
+        sign_written test.differs,
+        (
+          codes " ",
+          _,
+          refl,
+          refl,
+          (text_of_operand test.operand, [], sym (append-nil (text_of_operand test.operand)), operand_written test.operand, refl),
+        ),
+      ),
+    ),
+  ),
+)
 
 tests_written : (test : ColumnTest) (tests : List ColumnTest) → All IsTest (test ∷ tests) → TestsOf (test ∷ tests) (text_of_tests (test ∷ tests))
 tests_written test [] all = test_written test (All-head IsTest test [] all)
@@ -95,9 +122,19 @@ space_after (Text text) = refl
 
 conditions_written : (condition : Condition) (conditions : List Condition) → All IsCondition (condition ∷ conditions) → ConditionsOf (condition ∷ conditions) (text_of_conditions (condition ∷ conditions))
 conditions_written condition [] all = condition_written condition (All-head IsCondition condition [] all)
-conditions_written condition (next ∷ conditions) all =
-    (text_of_condition condition, _, refl, condition_written condition (All-head IsCondition condition (next ∷ conditions) all), (codes " ", _, refl, space_after condition.value,
-    (codes "and", _, refl, refl, (codes " ", _, refl, (refl, refl), conditions_written next conditions (All-tail IsCondition condition (next ∷ conditions) all)))))
+conditions_written condition (next ∷ conditions) all = (
+  text_of_condition condition,
+  _,
+  refl,
+  condition_written condition (All-head IsCondition condition (next ∷ conditions) all),
+  (
+    codes " ",
+    _,
+    refl,
+    space_after condition.value,
+    (codes "and", _, refl, refl, (codes " ", _, refl, (refl, refl), conditions_written next conditions (All-tail IsCondition condition (next ∷ conditions) all))),
+  ),
+)
 
 keyword_written : (by : NodeColumn) → Keyword (keyword_of by) (keyword_of by)
 keyword_written node.ExternalId = refl
@@ -106,11 +143,127 @@ keyword_written node.NodeId = refl
 pub choice_written : (choice : Subselect) (condition : Condition) (conditions : List Condition) → choice.conditions ≡ condition ∷ conditions → IsChoice choice → IsSubselectForm (text_of_choice choice) choice
 choice_written choice condition conditions e is =
     let all : All IsCondition (condition ∷ conditions) = subst (λ x. All IsCondition x) e is.conditions in
-    let says : ConditionsOf choice.conditions (text_of_conditions choice.conditions) = subst (λ x. ConditionsOf x (text_of_conditions x)) (sym e) (conditions_written condition conditions all) in
-    ([], _, refl, refl, (codes "c", _, refl, refl, ([], _, refl, refl, (codes ".", _, refl, refl, ([], _, refl, refl, (keyword_of choice.by, _, refl, keyword_written choice.by, (codes " ", _, refl, (refl, refl),
-    (codes "in", _, refl, refl, (codes " ", _, refl, refl, (codes "(", _, refl, refl, ([], _, refl, refl, (codes "select", _, refl, refl, (codes " ", _, refl, (refl, refl), (choice.column, _, refl, (refl, is.column),
-    (codes " ", _, refl, (refl, refl), (codes "from", _, refl, refl, (codes " ", _, refl, (refl, refl), (choice.table, _, refl, (refl, is.table), (codes " ", _, refl, (refl, refl), (codes "where", _, refl, refl,
-    (codes " ", _, refl, (refl, refl), (text_of_conditions choice.conditions, _, refl, says, ([], codes ")", refl, refl, (codes ")", [], refl, refl, refl))))))))))))))))))))))))
+    let says : ConditionsOf choice.conditions (text_of_conditions choice.conditions) = subst (λ x. ConditionsOf x (text_of_conditions x)) (sym e) (conditions_written condition conditions all) in (
+      [],
+      _,
+      refl,
+      refl,
+      (
+        codes "c",
+        _,
+        refl,
+        refl,
+        (
+          [],
+          _,
+          refl,
+          refl,
+          (
+            codes ".",
+            _,
+            refl,
+            refl,
+            (
+              [],
+              _,
+              refl,
+              refl,
+              (
+                keyword_of choice.by,
+                _,
+                refl,
+                keyword_written choice.by,
+                (
+                  codes " ",
+                  _,
+                  refl,
+                  (refl, refl),
+                  (
+                    codes "in",
+                    _,
+                    refl,
+                    refl,
+                    (
+                      codes " ",
+                      _,
+                      refl,
+                      refl,
+                      (
+                        codes "(",
+                        _,
+                        refl,
+                        refl,
+                        (
+                          [],
+                          _,
+                          refl,
+                          refl,
+                          (
+                            codes "select",
+                            _,
+                            refl,
+                            refl,
+                            (
+                              codes " ",
+                              _,
+                              refl,
+                              (refl, refl),
+                              (
+                                choice.column,
+                                _,
+                                refl,
+                                (refl, is.column),
+                                (
+                                  codes " ",
+                                  _,
+                                  refl,
+                                  (refl, refl),
+                                  (
+                                    codes "from",
+                                    _,
+                                    refl,
+                                    refl,
+                                    (
+                                      codes " ",
+                                      _,
+                                      refl,
+                                      (refl, refl),
+                                      (
+                                        choice.table,
+                                        _,
+                                        refl,
+                                        (refl, is.table),
+                                        (
+                                          codes " ",
+                                          _,
+                                          refl,
+                                          (refl, refl),
+                                          (
+                                            codes "where",
+                                            _,
+                                            refl,
+                                            refl,
+                                            (codes " ", _, refl, (refl, refl), (text_of_conditions choice.conditions, _, refl, says, ([], codes ")", refl, refl, (codes ")", [], refl, refl, refl)))),
+                                          ),
+                                        ),
+                                      ),
+                                    ),
+                                  ),
+                                ),
+                              ),
+                            ),
+                          ),
+                        ),
+                      ),
+                    ),
+                  ),
+                ),
+              ),
+            ),
+          ),
+        ),
+      ),
+    )
 
 -- the names of a choice
 named_value : (value : Compared) (text : List ℕ) → ValueOf value text → IsCompared value
@@ -126,6 +279,77 @@ named_conditions (condition ∷ []) text is = All-cons IsCondition condition [] 
 named_conditions (condition ∷ next ∷ conditions) text (a, t1, e1, is, (b, t2, e2, gap, (c, t3, e3, word, (d, t4, e4, more, others)))) = All-cons IsCondition condition (next ∷ conditions) (named_condition condition a is) (named_conditions (next ∷ conditions) t4 others)
 
 pub choice_names : (text : List ℕ) (choice : Subselect) → IsSubselectForm text choice → IsChoice choice
-choice_names text choice (a, t1, e1, p1, (b, t2, e2, p2, (c, t3, e3, p3, (d, t4, e4, p4, (f, t5, e5, p5, (g, t6, e6, p6, (h, t7, e7, p7, (i, t8, e8, p8, (j, t9, e9, p9, (k, t10, e10, p10, (l, t11, e11, p11, (m, t12, e12, p12,
-    (n, t13, e13, p13, (o, t14, e14, (column, column_good), (p, t15, e15, p15, (q, t16, e16, p16, (r, t17, e17, p17, (s, t18, e18, (table, table_good), (t, t19, e19, p19, (u, t20, e20, p20, (v, t21, e21, p21, (w, t22, e22, says, rest)))))))))))))))))))))) =
+choice_names text choice (
+  a,
+  t1,
+  e1,
+  p1,
+  (
+    b,
+    t2,
+    e2,
+    p2,
+    (
+      c,
+      t3,
+      e3,
+      p3,
+      (
+        d,
+        t4,
+        e4,
+        p4,
+        (
+          f,
+          t5,
+          e5,
+          p5,
+          (
+            g,
+            t6,
+            e6,
+            p6,
+            (
+              h,
+              t7,
+              e7,
+              p7,
+              (
+                i,
+                t8,
+                e8,
+                p8,
+                (
+                  j,
+                  t9,
+                  e9,
+                  p9,
+                  (
+                    k,
+                    t10,
+                    e10,
+                    p10,
+                    (
+                      l,
+                      t11,
+                      e11,
+                      p11,
+                      (
+                        m,
+                        t12,
+                        e12,
+                        p12,
+                        (n, t13, e13, p13, (o, t14, e14, (column, column_good), (p, t15, e15, p15, (q, t16, e16, p16, (r, t17, e17, p17, (s, t18, e18, (table, table_good), (t, t19, e19, p19, (u, t20, e20, p20, (v, t21, e21, p21, (w, t22, e22, says, rest)))))))))),
+                      ),
+                    ),
+                  ),
+                ),
+              ),
+            ),
+          ),
+        ),
+      ),
+    ),
+  ),
+) =
     record { column = column_good; table = table_good; conditions = named_conditions choice.conditions w says }

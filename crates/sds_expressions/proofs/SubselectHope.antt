@@ -1,4 +1,4 @@
--- From each state of the reading of a `subselect` router's expression that is reached some way to go on is of the form.
+-- From each state of the reading of a `subselect` router's expression that is reached some way to go on has the form.
 use Rattle.std.proofs.Common.{◌≡◌, ℕ, ◌+◌, ◌⊎◌, inl, inr, Bool, true, false, ◌&&◌, ◌||◌, ◌==◌, if◌then◌else◌, nat_lt, List, [], ◌∷◌, ◌++◌, length, drop, codes, Option, Some, None, Result, Err, refl, sym, ap, subst, ◌∙◌}
 use Rattle.std.proofs.lemmas.Bool.{and_parts}
 use Rattle.std.proofs.lemmas.Bool.Decides.{Decides-eqb}
@@ -26,7 +26,7 @@ done reading value is = readings.done choice.step choice.finish reading value is
 one_more : (reading next : Reading) (c : ℕ) → choice.step reading c ≡ Some next → scalar c ≡ true → CanEnd next → CanEnd reading
 one_more reading next c is good can = readings.one_more choice.step choice.finish reading next c is good can
 
--- at a keyword stands the front of one, and at a sign stands nothing
+-- at a keyword stands a prefix of one, and at a sign stands nothing
 abbrev HoldsAt : Slot → List ℕ → Type 0
 HoldsAt slot.Prefix word = choice.begins_keyword slot.Prefix word ≡ true
 HoldsAt slot.Dot word = word ≡ []
@@ -436,7 +436,7 @@ keyword_external : Keyword slot.Which (codes "external_id")
 keyword_external = record { outside = λ reading c is. rw is refl; no_name = refl; fronts = λ text rest e. rw (front_is (codes "external_id") text rest e) refl; letters = refl }
 
 keyword_node : Keyword slot.Which (codes "node_id")
-keyword_node = record { outside = λ reading c is. rw is refl; no_name = refl; fronts = λ text rest e. or_true (choice.is_front (codes "external_id") text) (choice.is_front (codes "node_id") text) (front_is (codes "node_id") text rest e); letters = refl }
+keyword_node = record { outside = λ reading c is. rw is refl; no_name = refl; fronts = λ text rest e. or_true (choice.is_prefix (codes "external_id") text) (choice.is_prefix (codes "node_id") text) (front_is (codes "node_id") text rest e); letters = refl }
 
 whole_external : Whole slot.Which (codes "external_id")
 whole_external reading is word = let next = choice.moved (record reading { by = choice.node_column reading.word }) slot.In true in one_more reading next 32 (rw (is, word) refl) refl (can_in_word next refl refl)
@@ -445,9 +445,9 @@ whole_node : Whole slot.Which (codes "node_id")
 whole_node reading is word = let next = choice.moved (record reading { by = choice.node_column reading.word }) slot.In true in one_more reading next 32 (rw (is, word) refl) refl (can_in_word next refl refl)
 
 can_which_word : (reading : Reading) → reading.slot ≡ slot.Which → choice.begins_keyword slot.Which reading.word ≡ true → CanEnd reading
-can_which_word reading is front = at reading.word refl (either (choice.is_front (codes "external_id") reading.word) (choice.is_front (codes "node_id") reading.word) front)
+can_which_word reading is front = at reading.word refl (either (choice.is_prefix (codes "external_id") reading.word) (choice.is_prefix (codes "node_id") reading.word) front)
   where
-    at : (word : List ℕ) → reading.word ≡ word → (choice.is_front (codes "external_id") reading.word ≡ true) ⊎ (choice.is_front (codes "node_id") reading.word ≡ true) → CanEnd reading
+    at : (word : List ℕ) → reading.word ≡ word → (choice.is_prefix (codes "external_id") reading.word ≡ true) ⊎ (choice.is_prefix (codes "node_id") reading.word ≡ true) → CanEnd reading
     at [] e fronts = can_begin slot.Which 101 (drop 1 (codes "external_id")) keyword_external whole_external refl (λ from x at_word nothing. rw (at_word, nothing) refl) reading is e
     at (w ∷ ws) e (inl f) = can_rest slot.Which (codes "external_id") keyword_external whole_external (drop (length reading.word) (codes "external_id")) reading w ws is e (rest_is (codes "external_id") reading.word f)
     at (w ∷ ws) e (inr f) = can_rest slot.Which (codes "node_id") keyword_node whole_node (drop (length reading.word) (codes "node_id")) reading w ws is e (rest_is (codes "node_id") reading.word f)

@@ -111,7 +111,7 @@ keyword_rest at is no_name r w ws (c ∷ cs) v e =
         let here : From (choice.finished_at at (within r at (w ∷ ws))) v (c ∷ cs) = ap (option_and_then (on cs)) (is.goes_on (within r at (w ∷ ws)) c) ∙ g in
         record { word = []; rest = c ∷ cs; is = refl; whole = subst (λ x. choice.is_keyword at x ≡ true) same u; more = subst (λ x. From (choice.finished_at at (within r at x)) v (c ∷ cs)) same here }
 
--- a keyword, and what is accepted behind it
+-- a keyword, and what is accepted after it
 abbrev pub AfterKeyword : Reading → Slot → Subselect → Form
 AfterKeyword r at v text = (word : List ℕ) × (choice.is_keyword at word ≡ true) × (Keyword word ▸ From (choice.finished_at at (within r at word)) v) text
 
@@ -125,7 +125,7 @@ keyword_read at is no_name words r spaced cs v e =
     let q = to_keyword at is words r spaced cs v e in
     (q.0, q.1, q.2, q.3, begun_keyword at is no_name r q.1 v q.4)
 
--- a name, and what is accepted behind it
+-- a name, and what is accepted after it
 abbrev pub Names : Slot → Type 0
 Names at = (reading : Reading) (c : ℕ) → choice.fresh_at at reading c ≡ choice.before_name reading c
 
@@ -196,7 +196,7 @@ name_read at is name names r false (c ∷ cs) v e =
     first : option_and_then (on cs) (choice.before_name (before r at false) c) ≡ Some v
     first = sym (ap (option_and_then (on cs)) (is.outside (before r at false) c ∙ names (before r at false) c)) ∙ e
 
--- a sign, and what is accepted behind it
+-- a sign, and what is accepted after it
 pub record IsSignSlot (at : Slot) (mark : ℕ) (to : Slot) : Type 0 where
   pub step : (reading : Reading) (spaced : Bool) (c : ℕ) → choice.step (before reading at spaced) c ≡ choice.sign mark to (before reading at spaced) c
   pub unended : (reading : Reading) → choice.choice_at at reading ≡ None
@@ -253,7 +253,7 @@ at_open = record { step = λ reading spaced c. refl; unended = λ reading. refl 
 pub at_equals : IsSignSlot slot.Equals 61 slot.Value
 at_equals = record { step = λ reading spaced c. refl; unended = λ reading. refl }
 
--- a text between quotes, from behind the first quote
+-- a text between quotes, from after the first quote
 record QuotedRead (r : Reading) (t cs : List ℕ) (v : Subselect) : Type 0 where
   word : List ℕ
   rest : List ℕ
@@ -279,7 +279,7 @@ quoted_read r t (c ∷ d ∷ cs) v e =
         let same : (t ++ c ∷ []) ++ q.word ≡ t ++ (c ∷ q.word) = append_assoc t (c ∷ []) q.word in
         record { word = c ∷ q.word; rest = q.rest; is = rw u (ap (λ xs. c ∷ xs) q.is); more = subst (λ w. From (choice.with_condition r (Text w) true) v q.rest) same q.more }
 
--- a value: a word may stand at once behind a quoted text
+-- a value: a word may stand at once after a quoted text
 abbrev pub closes : Compared → Bool
 closes (Routed name) = false
 closes (Text text) = true
@@ -303,7 +303,7 @@ value_read r (c ∷ cs) v e =
         let cut : c ∷ cs ≡ quoted q.word ++ q.rest = rw (is, q.is) (ap (λ xs. 39 ∷ xs) (sym (append_assoc (doubled q.word) (39 ∷ []) q.rest))) in
         ([], c ∷ cs, refl, refl, (Text q.word, (quoted q.word, q.rest, cut, refl, q.more)))
 
--- behind a condition
+-- after a condition
 abbrev Closing : Reading → Subselect → Form
 Closing r v = Exactly (codes ")") ▸ From (before r slot.Close true) v
 
@@ -336,7 +336,7 @@ next_read r false (c ∷ cs) v e =
     longer t (inl q) = inl (spaced_gap (Keyword (codes "and") ▸ From (before r slot.Tested false) v) c cs t q)
     longer t (inr q) = inr (in_front is_spacing (Closing r v) c cs t q)
 
--- behind the closing parenthesis
+-- after the closing parenthesis
 abbrev made : Reading → Subselect
 made r = record { by = r.by; column = r.column; table = r.table; conditions = r.conditions }
 

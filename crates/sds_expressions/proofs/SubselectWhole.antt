@@ -278,7 +278,7 @@ over_condition r condition text rest (name, t1, e1, named, (a, t2, e2, all, (mar
     ∙ (over_sign slot.Equals 61 slot.Value at_equals refl refl with_name false a mark (b ++ (value ++ rest)) all is
     ∙ (value_spacing with_name b (value ++ rest) spaces ∙ over_value with_name condition.value value rest says ends)))
 
--- behind a condition
+-- after a condition
 passes_next : Passes slot.Next
 passes_next r spaced c e = rw (spacing_no_end c e, e) refl
 
@@ -344,7 +344,7 @@ keyword_node = record {
   slot_is = at_which;
   no_name = refl;
   begins = λ r c e. rw (letter_no_spacing c 110 e refl, e) refl;
-  fronts = λ text rest e. or_true (choice.is_front (codes "external_id") text) (choice.is_front (codes "node_id") text) (front_is (codes "node_id") text rest e);
+  fronts = λ text rest e. or_true (choice.is_prefix (codes "external_id") text) (choice.is_prefix (codes "node_id") text) (front_is (codes "node_id") text rest e);
   last = λ c. refl;
   whole = refl;
 }

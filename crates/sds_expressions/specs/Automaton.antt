@@ -1,4 +1,4 @@
--- How a text is read character by character: a character leads from one state to the next, or to none.
+-- Reading character by character: a character leads from one state to the next, or to none.
 use Rattle.std.specs.Prelude.{◌≡◌, ℕ, ◌+◌, Bool, List, [], ◌∷◌, Option, Some, None, Result, Ok, Err, IfOk, if◌then◌else◌}
 
 -- what a text says that ends at this place
@@ -11,13 +11,14 @@ abbrev pub on : {S T : Type 0} → ℕ → (S → Result T ℕ) → Option S →
 on place rest (Some next) = rest next
 on place rest None = Err place
 
--- What a text says from a state, by what a character leads to and by what a text says that ends in a
--- state; or the place of the first character that leads to none.
+-- What a text says from a state, by what a character leads to and by what a text says that ends in
+-- a state; or the place of the first character that leads to none.
 abbrev pub run : {S T : Type 0} → (S → ℕ → Option S) → (S → Option T) → ℕ → S → List ℕ → Result T ℕ
 run step finish place state [] = ended place (finish state)
 run step finish place state (c ∷ cs) =
     on place (λ next. run step finish (place + 1) next cs) (step state c)
 
--- a call that makes this of a state returns whether a character leads to it, and else it leads to none
+-- a call that makes this of a state returns whether a character leads to it, and else it leads to
+-- none
 abbrev pub LeadsTo : {S E : Type 0} → Result Bool E → S → Option S → Type 0
 LeadsTo result made next = IfOk result (λ leads. (if leads then Some made else None) ≡ next)

@@ -56,7 +56,8 @@ ValueOf (Text value) = λ text. IsBareText text value ⊎ (text ≡ quoted value
 -- a name, a sign and a value, with any number of spaces round each
 abbrev pub TestOf : ColumnTest → Form
 TestOf test =
-    Spaces ▸ NameOf test.old test.name ▸ Spaces ▸ SignOf test.differs ▸ Spaces ▸ ValueOf test.operand ▸ Spaces
+    Spaces ▸ NameOf test.old test.name ▸ Spaces ▸ SignOf test.differs ▸ Spaces
+    ▸ ValueOf test.operand ▸ Spaces
 
 -- what joins two tests
 abbrev pub IsJoint : Form

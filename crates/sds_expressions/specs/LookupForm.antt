@@ -1,4 +1,4 @@
--- The form of a `lookuptable` router's expression: four lines, each a key with a name, in any order.
+-- The form of a `lookuptable` router's expression: four lines, each a key and a name, in any order.
 use Rattle.std.specs.Prelude.{◌≡◌, ◌⊎◌, ◌+◌, ℕ, Bool, true, false, if◌then◌else◌, List, [], ◌∷◌, ◌++◌, codes}
 use Rattle.sds_types.specs.declared.lookup.Lookup.{Lookup}
 use Rattle.sds_value.specs.Names.{is_name_text}

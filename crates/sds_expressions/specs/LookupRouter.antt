@@ -1,4 +1,5 @@
--- Decides which texts have the form of LookupForm, character by character.
+-- Decides which texts are expressions of a `lookuptable` router, character by character
+-- (LookupForm).
 use Rattle.std.specs.Prelude.{ℕ, ◌+◌, Bool, not, ◌&&◌, ◌||◌, ◌==◌, nat_lt, if◌then◌else◌, List, [], ◌∷◌, ◌++◌, length, codes, Option, Some, None, is_some, Result, Ok, Err}
 use Rattle.std.specs.List.{starts_with}
 use Rattle.std.specs.Str.{bytes_eq}
@@ -23,7 +24,7 @@ found ExternalId reading = reading.external_id
 abbrev pub is_open : Reading → LookupKey → Bool
 is_open reading key = not (is_some (found key reading))
 
--- the word is such a key, and the word is the front of such a key
+-- the word is such a key, and the word is the prefix of such a key
 abbrev pub is_key : Reading → List ℕ → LookupKey → Bool
 is_key reading word key = is_open reading key && bytes_eq word (key_text key)
 
@@ -38,7 +39,8 @@ key_of reading word = if is_key reading word Table then Some Table
 
 abbrev pub begins : Reading → List ℕ → Bool
 begins reading word = begins_key reading word Table
-    || (begins_key reading word Column || (begins_key reading word LookupColumn || begins_key reading word ExternalId))
+    || (begins_key reading word Column || (begins_key reading word LookupColumn
+    || begins_key reading word ExternalId))
 
 -- a line is read
 abbrev pub with_line : LookupKey → Reading → List ℕ → Reading
@@ -48,9 +50,16 @@ with_line LookupColumn reading name = record reading { lookup_column = Some name
 with_line ExternalId reading name = record reading { external_id = Some name }
 
 -- the four names, where they are all there
-abbrev pub four : Option (List ℕ) → Option (List ℕ) → Option (List ℕ) → Option (List ℕ) → Option Lookup
+abbrev pub four : Option (List ℕ) → Option (List ℕ) → Option (List ℕ) → Option (List ℕ)
+    → Option Lookup
 four (Some table) (Some column) (Some lookup_column) (Some external_id) =
-    Some (record { table = table; column = column; lookup_column = lookup_column; external_id = external_id })
+    Some (record {
+      table = table;
+      column = column;
+      lookup_column = lookup_column;
+      external_id =
+          external_id;
+    })
 four table column lookup_column external_id = None
 
 abbrev pub lookup_of : Reading → Option Lookup
@@ -59,24 +68,30 @@ lookup_of reading = four reading.table reading.column reading.lookup_column read
 -- in a key
 abbrev pub key_read : Reading → List ℕ → Option LookupKey → Option Reading
 key_read reading word (Some key) = Some (record reading { word = []; key = key; part = part.Name })
-key_read reading word None = if begins reading word then Some (record reading { word = word }) else None
+key_read reading word None = if begins reading word then Some (record reading { word = word })
+    else None
 
 abbrev pub step_key : Reading → ℕ → Option Reading
-step_key reading c = key_read reading (reading.word ++ c ∷ []) (key_of reading (reading.word ++ c ∷ []))
+step_key reading c = key_read reading (reading.word ++ c ∷ []) (key_of reading (reading.word
+    ++ c ∷ []))
 
--- behind a line: another key, or the end
-abbrev pub part_behind : Option Lookup → Part
-part_behind (Some lookup) = part.Ended
-part_behind None = part.Key
+-- after a line: another key, or the end
+abbrev pub part_after : Option Lookup → Part
+part_after (Some lookup) = part.Ended
+part_after None = part.Key
 
 abbrev pub next_line : Reading → Reading
-next_line reading = record reading { word = []; part = part_behind (lookup_of reading) }
+next_line reading = record reading { word = []; part = part_after (lookup_of reading) }
 
 -- in a name
 abbrev pub step_name : Reading → ℕ → Option Reading
 step_name reading c = if is_name_character c
-    then (if nat_lt (length reading.word) 50 then Some (record reading { word = reading.word ++ c ∷ [] }) else None)
-    else (if c == 10 && nat_lt 0 (length reading.word) then Some (next_line (with_line reading.key reading reading.word)) else None)
+    then (if nat_lt (length reading.word) 50 then Some (record reading {
+      word = reading.word
+          ++ c ∷ [];
+    }) else None)
+    else (if c == 10 && nat_lt 0 (length reading.word)
+    then Some (next_line (with_line reading.key reading reading.word)) else None)
 
 abbrev pub step_at : Part → Reading → ℕ → Option Reading
 step_at part.Key reading c = step_key reading c
@@ -100,7 +115,16 @@ abbrev pub finish : Reading → Option Lookup
 finish reading = lookup_at reading.part reading
 
 abbrev pub beginning : Reading
-beginning = record { table = None; column = None; lookup_column = None; external_id = None; key = Table; word = []; part = part.Key }
+beginning = record {
+  table = None;
+  column = None;
+  lookup_column = None;
+  external_id = None;
+  key =
+      Table;
+  word = [];
+  part = part.Key;
+}
 
 -- the lookup that a text says, or the place at which it leaves the form
 abbrev pub lookup_read : List ℕ → Result Lookup ℕ

@@ -14,7 +14,8 @@ use Rattle.sds_expressions.specs.ColumnForm.{begins_old, quoted}
 use Rattle.sds_expressions.specs.LookupForm.{lines_of}
 use Rattle.sds_expressions.specs.SubselectForm.{keyword_of}
 
--- The column of a test has a name. One that begins with `OLD_` can be asked for its old value alone.
+-- The column of a test has a name. One that begins with `OLD_` can be asked for its old value
+-- alone.
 pub record IsTest (test : ColumnTest) : Type 0 where
   pub named : is_name_text test.name ≡ true
   pub current : test.old ≡ false → begins_old test.name ≡ false
@@ -37,13 +38,15 @@ text_of_operand (operand.Text text) = quoted text
 
 abbrev pub text_of_test : ColumnTest → List ℕ
 text_of_test test =
-    text_of_name test.old test.name ++ (codes " " ++ (text_of_sign test.differs ++ (codes " " ++ text_of_operand test.operand)))
+    text_of_name test.old test.name ++ (codes " " ++ (text_of_sign test.differs ++ (codes " "
+    ++ text_of_operand test.operand)))
 
 -- tests, joined by ` or `
 abbrev pub text_of_tests : List ColumnTest → List ℕ
 text_of_tests [] = []
 text_of_tests (test ∷ []) = text_of_test test
-text_of_tests (test ∷ next ∷ tests) = text_of_test test ++ (codes " or " ++ text_of_tests (next ∷ tests))
+text_of_tests (test ∷ next ∷ tests) = text_of_test test ++ (codes " or "
+    ++ text_of_tests (next ∷ tests))
 
 -- the four lines, in the order of the lookup
 abbrev pub text_of_lookup : Lookup → List ℕ
@@ -74,10 +77,12 @@ text_of_condition condition = condition.column ++ (codes "=" ++ text_of_compared
 abbrev pub text_of_conditions : List Condition → List ℕ
 text_of_conditions [] = []
 text_of_conditions (condition ∷ []) = text_of_condition condition
-text_of_conditions (condition ∷ next ∷ conditions) = text_of_condition condition ++ (codes " and " ++ text_of_conditions (next ∷ conditions))
+text_of_conditions (condition ∷ next ∷ conditions) = text_of_condition condition ++ (codes " and "
+    ++ text_of_conditions (next ∷ conditions))
 
 -- a choice, with keywords in lower case
 abbrev pub text_of_choice : Subselect → List ℕ
 text_of_choice choice =
-    codes "c." ++ (keyword_of choice.by ++ (codes " in (select " ++ (choice.column ++ (codes " from " ++ (choice.table
+    codes "c." ++ (keyword_of choice.by ++ (codes " in (select " ++ (choice.column
+    ++ (codes " from " ++ (choice.table
     ++ (codes " where " ++ (text_of_conditions choice.conditions ++ codes ")")))))))

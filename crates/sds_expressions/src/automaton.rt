@@ -23,8 +23,8 @@ pub trait Automaton<T>: Drop {
         ensures { IfOk result (λ value. value ≡ finish self) };
 }
 
-/// Reads a text from its first state: what it says, or the place of the first character, from 0, from
-/// which no continuation has the form; where the text ends too early that is its length.
+/// Reads a text from its first state: what it says, or the place of the first character, from 0,
+/// from which no continuation has the form; where the text ends too early that is its length.
 pub fn read_text<T: Drop, A: Automaton<T>>(
     alloc: Global,
     first: A,

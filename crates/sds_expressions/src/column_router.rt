@@ -1,3 +1,4 @@
+//! The expression of a `column` router.
 ghost use Rattle.std.specs.Prelude.{◌≡◌, ◌∷◌, [], IfOk, if◌then◌else◌};
 ghost use Rattle.std.specs.Str.{chars};
 ghost use Rattle.sds_expressions.specs.Automaton.{LeadsTo};
@@ -26,26 +27,26 @@ const NULL: [char; 4] = ['N', 'U', 'L', 'L'];
 pub enum Part {
     /// Before a test.
     Before,
-    /// Behind a line feed, which may be the end.
+    /// After a line feed, which may be the end.
     Fresh,
-    /// In a name, and behind it.
+    /// In a name, and after it.
     Name,
     Named,
     /// Between `!` and `=`.
     Bang,
-    /// Behind the sign.
+    /// After the sign.
     Sign,
-    /// In a word behind a colon.
+    /// In a word after a colon.
     Colon,
     /// In a bare text.
     Bare,
     /// Between quotes.
     Quoted,
-    /// Behind a quote that ends the text or is the first of two.
+    /// After a quote that ends the text or is the first of two.
     Quote,
-    /// Behind a test and a space.
-    Behind,
-    /// Behind the first letter of `or`, and behind both.
+    /// After a test and a space.
+    After,
+    /// After the first letter of `or`, and after both.
     Letter,
     Joined,
 }
@@ -60,8 +61,8 @@ pub struct Reading {
     pub part: Part,
 }
 
-/// The tests of a `column` router's expression, or the place of the first character, from 0, from which no continuation is of
-/// the form; where the text ends too early that is its length.
+/// The tests of a `column` router's expression, or the place of the first character, from 0, from
+/// which no continuation is of the form; where the text ends too early that is its length.
 pub fn column_tests(alloc: Global, text: &str) -> Result<Result<List<ColumnTest>, usize>, NoMemory>
     ensures form { IfOk result (λ read. ReadsAs IsColumnForm (chars text.now) read) }
     ensures decided { IfOk result (λ read. read ≡ wanted.tests_of (chars text.now)) }
@@ -86,7 +87,7 @@ impl Automaton<List<ColumnTest>> for Reading {
             Part::Bare => step_bare(alloc, self, c),
             Part::Quoted => step_quoted(alloc, self, c),
             Part::Quote => step_quote(alloc, self, c),
-            Part::Behind => step_behind(alloc, self, c),
+            Part::After => step_after(alloc, self, c),
             Part::Letter => step_letter(alloc, self, c),
             Part::Joined => step_joined(alloc, self, c),
         }
@@ -95,7 +96,7 @@ impl Automaton<List<ColumnTest>> for Reading {
     fn end(self, alloc: Global) -> Result<Option<List<ColumnTest>>, NoMemory> {
         let text = self.text.inner().as_slice();
         let operand = match self.part {
-            Part::Behind | Part::Fresh => return Ok(Some(self.tests)),
+            Part::After | Part::Fresh => return Ok(Some(self.tests)),
             Part::Colon => operand_named(text),
             Part::Bare => Some(bare_operand(alloc, text)?),
             Part::Quote => Some(Operand::Text(text_of(alloc, text)?)),
@@ -260,8 +261,8 @@ fn step_quote(alloc: Global, reading: &mut Reading, c: char) -> Result<bool, NoM
     ended(alloc, reading, c, Some(Operand::Text(text)))
 }
 
-fn step_behind(_alloc: Global, reading: &mut Reading, c: char) -> Result<bool, NoMemory>
-    ensures { LeadsTo result reading.new (wanted.step_behind reading.old c) }
+fn step_after(_alloc: Global, reading: &mut Reading, c: char) -> Result<bool, NoMemory>
+    ensures { LeadsTo result reading.new (wanted.step_after reading.old c) }
 {
     match c {
         ' ' => {}
@@ -292,7 +293,7 @@ fn step_joined(_alloc: Global, reading: &mut Reading, c: char) -> Result<bool, N
     Ok(true)
 }
 
-/// What a value leads to, behind which a space or a line feed stands.
+/// What a value leads to, after which a space or a line feed stands.
 fn ended(
     alloc: Global,
     reading: &mut Reading,
@@ -305,7 +306,7 @@ fn ended(
         return Ok(false);
     };
     let next = match c {
-        ' ' => Part::Behind,
+        ' ' => Part::After,
         '\n' => Part::Fresh,
         _ => return Ok(false),
     };
@@ -375,10 +376,10 @@ fn operand_named(word: &[char]) -> Option<Operand>
     None
 }
 
-fn begins_word(front: &[char]) -> bool
-    ensures { result ≡ wanted.begins_word front.now }
+fn begins_word(prefix: &[char]) -> bool
+    ensures { result ≡ wanted.begins_word prefix.now }
 {
-    begins(&NODE_ID, front) || begins(&EXTERNAL_ID, front) || begins(&NODE_GROUP_ID, front)
+    begins(&NODE_ID, prefix) || begins(&EXTERNAL_ID, prefix) || begins(&NODE_GROUP_ID, prefix)
 }
 
 fn bare_operand(alloc: Global, text: &[char]) -> Result<Operand, NoMemory>

@@ -1,3 +1,4 @@
+//! Texts as lists of characters.
 ghost use Rattle.std.specs.Prelude.{◌≡◌, ◌==◌, ◌++◌, ◌∷◌, [], true, IfOk, OnOk, string_bytes};
 ghost use Rattle.std.specs.Str.{all_scalars, chars, encode_utf8_all};
 ghost use Rattle.std.specs.List.{starts_with};
@@ -25,18 +26,19 @@ pub fn text_of(alloc: Global, characters: &[char]) -> Result<Txt, NoMemory>
 }
 
 fn put(text: &mut String, character: char) -> Result<(), NoMemory>
-    ensures bytes { OnOk result (string_bytes text.new ≡ string_bytes text.old ++ encode_utf8_all (character ∷ [])) }
+    ensures bytes { OnOk result (string_bytes text.new ≡ string_bytes text.old
+        ++ encode_utf8_all (character ∷ [])) }
     ensures scalar { OnOk result (all_scalars (character ∷ []) ≡ true) }
 {
     text.push(character)?;
     Ok(())
 }
 
-/// Whether the text begins with this front.
-pub fn begins(text: &[char], front: &[char]) -> bool
-    ensures { result ≡ starts_with (λ a b. a == b) text.now front.now }
+/// Whether the text begins with this prefix.
+pub fn begins(text: &[char], prefix: &[char]) -> bool
+    ensures { result ≡ starts_with (λ a b. a == b) text.now prefix.now }
 {
-    text.starts_with(front)
+    text.starts_with(prefix)
 }
 
 /// Whether the character may stand in a name.

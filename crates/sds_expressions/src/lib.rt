@@ -1,5 +1,5 @@
-//! The small texts inside a configuration: numbers, pieces of texts, and the expressions of routers and transforms, each
-//! with its definition.
+//! The texts inside a configuration: numbers, pieces of texts, expressions of routers and
+//! transforms.
 #![tactic(auto)]
 
 mod automaton;

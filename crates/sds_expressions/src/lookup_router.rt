@@ -1,3 +1,4 @@
+//! The expression of a `lookuptable` router.
 ghost use Rattle.std.specs.Prelude.{◌≡◌, ◌==◌, IfOk, if◌then◌else◌};
 ghost use Rattle.std.specs.Str.{bytes_eq, chars};
 ghost use Rattle.std.specs.List.{starts_with};
@@ -35,7 +36,8 @@ pub enum LookupKey {
     ExternalId,
 }
 
-/// Where the reading of a `lookuptable` router's expression stands: in a key, in a name, or behind the last line.
+/// Where the reading of a `lookuptable` router's expression stands: in a key, in a name, or after
+/// the last line.
 #[derive(Clone, Copy, Debug)]
 pub enum Part {
     Key,
@@ -55,8 +57,8 @@ pub struct Reading {
     pub part: Part,
 }
 
-/// The lookup of a `lookuptable` router's expression, or the place of the first character, from 0, from which no
-/// continuation is of the form; where the text ends too early that is its length.
+/// The lookup of a `lookuptable` router's expression, or the place of the first character, from 0,
+/// from which no continuation has the form; where the text ends too early that is its length.
 pub fn lookup_text(alloc: Global, text: &str) -> Result<Result<Lookup, usize>, NoMemory>
     ensures form { IfOk result (λ read. ReadsAs IsLookupForm (chars text.now) read) }
     ensures decided { IfOk result (λ read. read ≡ wanted.lookup_read (chars text.now)) }
@@ -170,13 +172,13 @@ fn step_name(alloc: Global, reading: &mut Reading, c: char) -> Result<bool, NoMe
     let name = text_of(alloc, reading.word.inner().as_slice())?;
     let key = reading.key;
     put_line(reading, key, name);
-    reading.part = part_behind(reading);
+    reading.part = part_after(reading);
     reading.word = List::new(alloc);
     Ok(true)
 }
 
-fn part_behind(reading: &Reading) -> Part
-    ensures { result ≡ wanted.part_behind (wanted.lookup_of reading.now) }
+fn part_after(reading: &Reading) -> Part
+    ensures { result ≡ wanted.part_after (wanted.lookup_of reading.now) }
 {
     match (
         &reading.table,

@@ -1,3 +1,4 @@
+//! The expression of a `subselect` router.
 ghost use Rattle.std.specs.Prelude.{◌≡◌, true, false, IfOk, OnOk, if◌then◌else◌};
 ghost use Rattle.std.specs.Str.{chars};
 ghost use Rattle.sds_expressions.specs.Automaton.{LeadsTo};
@@ -27,7 +28,8 @@ const WHERE: [char; 5] = ['w', 'h', 'e', 'r', 'e'];
 
 const AND: [char; 3] = ['a', 'n', 'd'];
 
-/// Where the reading of a `subselect` router's expression stands: at a keyword, a sign, a name or a value.
+/// Where the reading of a `subselect` router's expression stands: at a keyword, a sign, a name or a
+/// value.
 #[derive(Clone, Copy, Debug)]
 pub enum Slot {
     /// `c`
@@ -60,11 +62,11 @@ pub enum Slot {
     Routed,
     /// Between quotes.
     Quoted,
-    /// Behind a quote that ends the text or is the first of two.
+    /// After a quote that ends the text or is the first of two.
     Quote,
     /// `and`, or `)`.
     Next,
-    /// Behind the closing parenthesis.
+    /// After the closing parenthesis.
     Close,
 }
 
@@ -83,8 +85,8 @@ pub struct Reading {
     pub slot: Slot,
 }
 
-/// The choice of a `subselect` router's expression, or the place of the first character, from 0, from which no continuation
-/// is of the form; where the text ends too early that is its length.
+/// The choice of a `subselect` router's expression, or the place of the first character, from 0,
+/// from which no continuation has the form; where the text ends too early that is its length.
 pub fn subselect_text(alloc: Global, text: &str) -> Result<Result<Subselect, usize>, NoMemory>
     ensures form { IfOk result (λ read. ReadsAs IsSubselectForm (chars text.now) read) }
     ensures decided { IfOk result (λ read. read ≡ wanted.subselect_of (chars text.now)) }
@@ -101,7 +103,7 @@ impl Automaton<Subselect> for Reading {
     fn read(&mut self, alloc: Global, c: char) -> Result<bool, NoMemory> {
         match self.slot {
             Slot::Quoted => in_quotes(alloc, self, c),
-            Slot::Quote => behind_quote(alloc, self, c),
+            Slot::Quote => after_quote(alloc, self, c),
             _ => outside(alloc, self, c),
         }
     }
@@ -157,8 +159,8 @@ fn in_quotes(_alloc: Global, reading: &mut Reading, c: char) -> Result<bool, NoM
     Ok(true)
 }
 
-fn behind_quote(alloc: Global, reading: &mut Reading, c: char) -> Result<bool, NoMemory>
-    ensures { LeadsTo result reading.new (wanted.behind_quote reading.old c) }
+fn after_quote(alloc: Global, reading: &mut Reading, c: char) -> Result<bool, NoMemory>
+    ensures { LeadsTo result reading.new (wanted.after_quote reading.old c) }
 {
     if c == '\'' {
         reading.word.push(c)?;
@@ -281,7 +283,7 @@ fn before_value(alloc: Global, reading: &mut Reading, c: char) -> Result<bool, N
     Ok(true)
 }
 
-/// Stands before a slot, where a word may begin at once or only behind spacing.
+/// Stands before a slot, where a word may begin at once or only after spacing.
 fn put_slot(alloc: Global, reading: &mut Reading, next: Slot, spaced: bool)
     ensures { reading.new ≡ wanted.moved reading.old next spaced }
 {
@@ -304,7 +306,7 @@ fn put_condition(
     Ok(())
 }
 
-/// Goes on behind a whole word.
+/// Goes on after a whole word.
 fn finish(alloc: Global, reading: &mut Reading) -> Result<(), NoMemory>
     ensures { OnOk result (reading.new ≡ wanted.finished_at reading.old.slot reading.old) }
 {

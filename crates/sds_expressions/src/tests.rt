@@ -1,4 +1,4 @@
-// Expressions that read, and the place at which the others leave their form.
+//! Expressions that read, and the place at which the others leave their form.
 use crate::{
     behind, column_tests, left_of, lookup_text, multiplier_of, plain_number, split_at,
     subselect_text, substr_of, value_map_of, variable_of,
@@ -66,12 +66,23 @@ fn column_tests_say_what_is_compared(rt: HostRuntime) -> Result<(), Fail> {
         ("a!=:EXTERNAL_ID", true, Operand::ExternalId),
         ("a = :NODE_GROUP_ID", false, Operand::NodeGroupId),
         ("a != NULL", true, Operand::Null),
-        ("a='NULL'", false, Operand::Text(Txt::copied(alloc, "NULL")?)),
-        ("a=1.5-x_", false, Operand::Text(Txt::copied(alloc, "1.5-x_")?)),
+        (
+            "a='NULL'",
+            false,
+            Operand::Text(Txt::copied(alloc, "NULL")?),
+        ),
+        (
+            "a=1.5-x_",
+            false,
+            Operand::Text(Txt::copied(alloc, "1.5-x_")?),
+        ),
     ] {
         let tests = column_tests(alloc, text)?.map_err(|_| Fail::from("no tests"))?;
         let test = &tests.inner().as_slice()[0];
-        assert!(rt; test.differs == differs && test.operand.same(&operand), "{text}");
+        assert!(rt;
+            test.differs == differs && test.operand.same(&operand),
+            "{text}"
+        );
     }
     let tests = match column_tests(alloc, "OLD_a != 'it''s' or b = NULL")? {
         Ok(tests) => tests,
