@@ -39,6 +39,9 @@ branch k value false x y f g e = g refl e
 pub in_front : (passes : ℕ → Bool) (Q : Form) (c : ℕ) (cs : List ℕ) → passes c ≡ true → (AnyOf passes ▸ Q) cs → (AnyOf passes ▸ Q) (c ∷ cs)
 in_front passes Q c cs e (a, b, is, all, more) = (c ∷ a, b, ap (λ xs. c ∷ xs) is, rw e all, more)
 
+pub joined : (P Q : Form) (a b : List ℕ) → P a → Q b → (P ▸ Q) (a ++ b)
+joined P Q a b p q = (a, b, refl, p, q)
+
 pub grouped : (P Q R : Form) (text a b : List ℕ) → text ≡ a ++ b → P a → (Q ▸ R) b → ((P ▸ Q) ▸ R) text
 grouped P Q R text a b e p (x, y, f, q, r) = (a ++ x, y, e ∙ (ap (λ z. a ++ z) f ∙ sym (append_assoc a x y)), (a, x, refl, p, q), r)
 

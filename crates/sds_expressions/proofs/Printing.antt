@@ -19,6 +19,7 @@ use Rattle.sds_expressions.specs.ColumnForm.{begins_old, quoted, NameOf, SignOf,
 use Rattle.sds_expressions.specs.ColumnForm as column
 use Rattle.sds_expressions.specs.LookupForm.{HasNames, IsOrder, IsLookupForm}
 use Rattle.sds_expressions.specs.SubselectForm.{Spacing, Gap, Keyword, keyword_of, ValueOf, ConditionOf, SpacingAfter, ConditionsOf, IsSubselectForm}
+use Rattle.sds_expressions.proofs.Accepting.{joined}
 use Rattle.sds_expressions.specs.Printed.{IsTest, text_of_name, text_of_sign, text_of_operand, text_of_test, text_of_tests, text_of_lookup, IsCompared, IsCondition, IsChoice, text_of_compared, text_of_condition, text_of_conditions, text_of_choice}
 
 -- tests
@@ -38,42 +39,16 @@ operand_written operand.Null = refl
 operand_written (operand.Text text) = inr refl
 
 test_written : (test : ColumnTest) → IsTest test → TestOf test (text_of_test test)
-test_written test is = (
-  [],
-  text_of_test test,
-  refl,
-  refl,
-  (
-    text_of_name test.old test.name,
-    _,
-    refl,
-    name_written test.old test.name is.named is.current,
-    (
-      codes " ",
-      _,
-      refl,
-      refl,
-      (
-        text_of_sign test.differs,
-        _,
-        refl,
-        sign_written test.differs,
-        (
-          codes " ",
-          _,
-          refl,
-          refl,
-          (text_of_operand test.operand, [], sym (append-nil (text_of_operand test.operand)), operand_written test.operand, refl),
-        ),
-      ),
-    ),
-  ),
-)
+test_written test is =
+    joined _ _ [] _ refl (joined _ _ (text_of_name test.old test.name) _ (name_written test.old test.name is.named is.current)
+    (joined _ _ (codes " ") _ refl (joined _ _ (text_of_sign test.differs) _ (sign_written test.differs) (joined _ _ (codes " ") _ refl
+    (text_of_operand test.operand, [], sym (append-nil (text_of_operand test.operand)), operand_written test.operand, refl)))))
 
 tests_written : (test : ColumnTest) (tests : List ColumnTest) → All IsTest (test ∷ tests) → TestsOf (test ∷ tests) (text_of_tests (test ∷ tests))
 tests_written test [] all = test_written test (All-head IsTest test [] all)
 tests_written test (next ∷ tests) all =
-    (text_of_test test, _, refl, test_written test (All-head IsTest test (next ∷ tests) all), (codes " or ", _, refl, inl refl, tests_written next tests (All-tail IsTest test (next ∷ tests) all)))
+    joined _ _ (text_of_test test) _ (test_written test (All-head IsTest test (next ∷ tests) all))
+    (joined _ _ (codes " or ") _ (inl refl) (tests_written next tests (All-tail IsTest test (next ∷ tests) all)))
 
 pub column_written : (test : ColumnTest) (tests : List ColumnTest) → All IsTest (test ∷ tests) → IsColumnForm (text_of_tests (test ∷ tests)) (test ∷ tests)
 column_written test tests all = (text_of_tests (test ∷ tests), [], sym (append-nil (text_of_tests (test ∷ tests))), tests_written test tests all, inl refl)
@@ -109,12 +84,12 @@ lookup_written lookup names = (names, Table ∷ Column ∷ LookupColumn ∷ Exte
 
 -- choices
 compared_written : (value : Compared) → IsCompared value → ValueOf value (text_of_compared value)
-compared_written (Routed name) good = (codes ":", name, refl, refl, ([], name, refl, refl, (refl, good)))
+compared_written (Routed name) good = joined _ _ (codes ":") name refl (joined _ _ [] name refl (refl, good))
 compared_written (Text text) good = refl
 
 condition_written : (condition : Condition) → IsCondition condition → ConditionOf condition (text_of_condition condition)
 condition_written condition is =
-    (condition.column, _, refl, (refl, is.named), ([], _, refl, refl, (codes "=", _, refl, refl, ([], text_of_compared condition.value, refl, refl, compared_written condition.value is.compared))))
+    joined _ _ condition.column _ (refl, is.named) (joined _ _ [] _ refl (joined _ _ (codes "=") _ refl (joined _ _ [] _ refl (compared_written condition.value is.compared))))
 
 space_after : (value : Compared) → SpacingAfter value (codes " ")
 space_after (Routed name) = (refl, refl)
@@ -122,19 +97,10 @@ space_after (Text text) = refl
 
 conditions_written : (condition : Condition) (conditions : List Condition) → All IsCondition (condition ∷ conditions) → ConditionsOf (condition ∷ conditions) (text_of_conditions (condition ∷ conditions))
 conditions_written condition [] all = condition_written condition (All-head IsCondition condition [] all)
-conditions_written condition (next ∷ conditions) all = (
-  text_of_condition condition,
-  _,
-  refl,
-  condition_written condition (All-head IsCondition condition (next ∷ conditions) all),
-  (
-    codes " ",
-    _,
-    refl,
-    space_after condition.value,
-    (codes "and", _, refl, refl, (codes " ", _, refl, (refl, refl), conditions_written next conditions (All-tail IsCondition condition (next ∷ conditions) all))),
-  ),
-)
+conditions_written condition (next ∷ conditions) all =
+    joined _ _ (text_of_condition condition) _ (condition_written condition (All-head IsCondition condition (next ∷ conditions) all))
+    (joined _ _ (codes " ") _ (space_after condition.value) (joined _ _ (codes "and") _ refl
+    (joined _ _ (codes " ") _ (refl, refl) (conditions_written next conditions (All-tail IsCondition condition (next ∷ conditions) all)))))
 
 keyword_written : (by : NodeColumn) → Keyword (keyword_of by) (keyword_of by)
 keyword_written node.ExternalId = refl
@@ -143,127 +109,13 @@ keyword_written node.NodeId = refl
 pub choice_written : (choice : Subselect) (condition : Condition) (conditions : List Condition) → choice.conditions ≡ condition ∷ conditions → IsChoice choice → IsSubselectForm (text_of_choice choice) choice
 choice_written choice condition conditions e is =
     let all : All IsCondition (condition ∷ conditions) = subst (λ x. All IsCondition x) e is.conditions in
-    let says : ConditionsOf choice.conditions (text_of_conditions choice.conditions) = subst (λ x. ConditionsOf x (text_of_conditions x)) (sym e) (conditions_written condition conditions all) in (
-      [],
-      _,
-      refl,
-      refl,
-      (
-        codes "c",
-        _,
-        refl,
-        refl,
-        (
-          [],
-          _,
-          refl,
-          refl,
-          (
-            codes ".",
-            _,
-            refl,
-            refl,
-            (
-              [],
-              _,
-              refl,
-              refl,
-              (
-                keyword_of choice.by,
-                _,
-                refl,
-                keyword_written choice.by,
-                (
-                  codes " ",
-                  _,
-                  refl,
-                  (refl, refl),
-                  (
-                    codes "in",
-                    _,
-                    refl,
-                    refl,
-                    (
-                      codes " ",
-                      _,
-                      refl,
-                      refl,
-                      (
-                        codes "(",
-                        _,
-                        refl,
-                        refl,
-                        (
-                          [],
-                          _,
-                          refl,
-                          refl,
-                          (
-                            codes "select",
-                            _,
-                            refl,
-                            refl,
-                            (
-                              codes " ",
-                              _,
-                              refl,
-                              (refl, refl),
-                              (
-                                choice.column,
-                                _,
-                                refl,
-                                (refl, is.column),
-                                (
-                                  codes " ",
-                                  _,
-                                  refl,
-                                  (refl, refl),
-                                  (
-                                    codes "from",
-                                    _,
-                                    refl,
-                                    refl,
-                                    (
-                                      codes " ",
-                                      _,
-                                      refl,
-                                      (refl, refl),
-                                      (
-                                        choice.table,
-                                        _,
-                                        refl,
-                                        (refl, is.table),
-                                        (
-                                          codes " ",
-                                          _,
-                                          refl,
-                                          (refl, refl),
-                                          (
-                                            codes "where",
-                                            _,
-                                            refl,
-                                            refl,
-                                            (codes " ", _, refl, (refl, refl), (text_of_conditions choice.conditions, _, refl, says, ([], codes ")", refl, refl, (codes ")", [], refl, refl, refl)))),
-                                          ),
-                                        ),
-                                      ),
-                                    ),
-                                  ),
-                                ),
-                              ),
-                            ),
-                          ),
-                        ),
-                      ),
-                    ),
-                  ),
-                ),
-              ),
-            ),
-          ),
-        ),
-      ),
-    )
+    let says : ConditionsOf choice.conditions (text_of_conditions choice.conditions) = subst (λ x. ConditionsOf x (text_of_conditions x)) (sym e) (conditions_written condition conditions all) in
+    joined _ _ [] _ refl (joined _ _ (codes "c") _ refl (joined _ _ [] _ refl (joined _ _ (codes ".") _ refl
+    (joined _ _ [] _ refl (joined _ _ (keyword_of choice.by) _ (keyword_written choice.by) (joined _ _ (codes " ") _ (refl, refl) (joined _ _ (codes "in") _ refl
+    (joined _ _ (codes " ") _ refl (joined _ _ (codes "(") _ refl (joined _ _ [] _ refl (joined _ _ (codes "select") _ refl
+    (joined _ _ (codes " ") _ (refl, refl) (joined _ _ choice.column _ (refl, is.column) (joined _ _ (codes " ") _ (refl, refl) (joined _ _ (codes "from") _ refl
+    (joined _ _ (codes " ") _ (refl, refl) (joined _ _ choice.table _ (refl, is.table) (joined _ _ (codes " ") _ (refl, refl) (joined _ _ (codes "where") _ refl
+    (joined _ _ (codes " ") _ (refl, refl) (joined _ _ (text_of_conditions choice.conditions) _ says (joined _ _ [] _ refl (joined _ _ (codes ")") [] refl refl)))))))))))))))))))))))
 
 -- the names of a choice
 named_value : (value : Compared) (text : List ℕ) → ValueOf value text → IsCompared value

@@ -18,7 +18,6 @@ run step finish place state [] = ended place (finish state)
 run step finish place state (c ∷ cs) =
     on place (λ next. run step finish (place + 1) next cs) (step state c)
 
--- a call that makes this of a state returns whether a character leads to it, and else it leads to
--- none
+-- what a call returns that reads a character: whether it leads to this state, or to none
 abbrev pub LeadsTo : {S E : Type 0} → Result Bool E → S → Option S → Type 0
 LeadsTo result made next = IfOk result (λ leads. (if leads then Some made else None) ≡ next)

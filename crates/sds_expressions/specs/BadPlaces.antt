@@ -11,11 +11,11 @@ pub record IsFirstBad {T : Type 0} (IsForm : List ℕ → T → Type 0) (text : 
   pub within : place ≤ length text
   pub malformed : (value : T) → IsForm text value → ⊥
   pub hopeful :
-      (more : List ℕ) × (all_scalars more ≡ true) × (value : T) × IsForm (take place text
-      ++ more) value
+      (more : List ℕ) × (all_scalars more ≡ true) × (value : T)
+      × IsForm (take place text ++ more) value
   pub hopeless :
-      place < length text → (more : List ℕ) (value : T) → IsForm (take (place + 1) text
-      ++ more) value → ⊥
+      place < length text → (more : List ℕ) (value : T)
+      → IsForm (take (place + 1) text ++ more) value → ⊥
 
 -- the value that the text says, or the first bad place
 abbrev pub ReadsAs : {T : Type 0} → (List ℕ → T → Type 0) → List ℕ → Result T ℕ → Type 0

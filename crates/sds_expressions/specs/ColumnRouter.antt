@@ -58,13 +58,17 @@ test_of reading operand = record {
 abbrev pub at_part : Reading → Part → Reading
 at_part reading next = record reading { part = next }
 
+-- the reading with one character more in its name, or in its text
+abbrev pub longer_name : Reading → ℕ → Reading
+longer_name reading c = record reading { name = reading.name ++ c ∷ [] }
+
+abbrev pub longer_text : Reading → ℕ → Reading
+longer_text reading c = record reading { text = reading.text ++ c ∷ [] }
+
 -- after a value stands a space or a line feed
 abbrev pub with_test : Reading → Operand → Part → Option Reading
-with_test reading operand next = Some (record reading {
-  tests = reading.tests
-      ++ test_of reading operand ∷ [];
-  part = next;
-})
+with_test reading operand next =
+    Some (record reading { tests = reading.tests ++ test_of reading operand ∷ []; part = next })
 
 abbrev pub ended : Reading → ℕ → Option Operand → Option Reading
 ended reading c None = None
@@ -73,7 +77,8 @@ ended reading c (Some operand) = if c == 32 then with_test reading operand part.
 
 -- before a test
 abbrev pub step_before : Reading → ℕ → Option Reading
-step_before reading c = if c == 32 then Some (at_part reading part.Before)
+step_before reading c =
+    if c == 32 then Some (at_part reading part.Before)
     else (if is_name_character c then Some (record reading { name = c ∷ []; part = part.Name })
     else None)
 
@@ -85,17 +90,15 @@ step_named reading c = if c == 32 then Some (at_part reading part.Named)
 
 -- in a name
 abbrev pub step_name : Reading → ℕ → Option Reading
-step_name reading c = if is_name_character c
-    then (if is_short (reading.name ++ c ∷ []) then Some (record reading {
-      name = reading.name
-          ++ c ∷ [];
-    }) else None)
+step_name reading c =
+    if is_name_character c
+    then (if is_short (reading.name ++ c ∷ []) then Some (longer_name reading c) else None)
     else (if is_whole reading.name then step_named reading c else None)
 
 -- between `!` and `=`
 abbrev pub step_bang : Reading → ℕ → Option Reading
-step_bang reading c = if c == 61 then Some (record reading { differs = true; part = part.Sign })
-    else None
+step_bang reading c =
+    if c == 61 then Some (record reading { differs = true; part = part.Sign }) else None
 
 -- before a value
 abbrev pub step_sign : Reading → ℕ → Option Reading
@@ -107,38 +110,32 @@ step_sign reading c = if c == 32 then Some reading
 
 -- in a word after a colon
 abbrev pub step_colon : Reading → ℕ → Option Reading
-step_colon reading c = if begins_word (reading.text ++ c ∷ []) then Some (record reading {
-  text =
-      reading.text ++ c ∷ [];
-})
+step_colon reading c =
+    if begins_word (reading.text ++ c ∷ []) then Some (longer_text reading c)
     else ended reading c (operand_at part.Colon reading.text)
 
 -- in a bare text
 abbrev pub step_bare : Reading → ℕ → Option Reading
-step_bare reading c = if is_bare_character c then Some (record reading {
-  text = reading.text
-      ++ c ∷ [];
-})
+step_bare reading c =
+    if is_bare_character c then Some (longer_text reading c)
     else ended reading c (operand_at part.Bare reading.text)
 
 -- between quotes, and after a quote that ends the text or is the first of two
 abbrev pub step_quoted : Reading → ℕ → Option Reading
-step_quoted reading c = if c == 39 then Some (at_part reading part.Quote)
-    else Some (record reading { text = reading.text ++ c ∷ [] })
+step_quoted reading c =
+    if c == 39 then Some (at_part reading part.Quote) else Some (longer_text reading c)
 
 abbrev pub step_quote : Reading → ℕ → Option Reading
-step_quote reading c = if c == 39 then Some (record reading {
-  text = reading.text ++ c ∷ [];
-  part =
-      part.Quoted;
-})
+step_quote reading c =
+    if c == 39 then Some (at_part (longer_text reading c) part.Quoted)
     else ended reading c (operand_at part.Quote reading.text)
 
 -- after a test and a space
 abbrev pub step_after : Reading → ℕ → Option Reading
-step_after reading c = if c == 32 then Some reading
-    else (if c == 10 then Some (at_part reading part.Fresh) else (if c == 111
-    then Some (at_part reading part.Letter) else None))
+step_after reading c =
+    if c == 32 then Some reading
+    else (if c == 10 then Some (at_part reading part.Fresh)
+    else (if c == 111 then Some (at_part reading part.Letter) else None))
 
 -- in ` or `
 abbrev pub step_letter : Reading → ℕ → Option Reading

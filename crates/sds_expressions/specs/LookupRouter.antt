@@ -83,13 +83,15 @@ part_after None = part.Key
 abbrev pub next_line : Reading → Reading
 next_line reading = record reading { word = []; part = part_after (lookup_of reading) }
 
+-- the reading with one character more in its word
+abbrev pub longer : Reading → ℕ → Reading
+longer reading c = record reading { word = reading.word ++ c ∷ [] }
+
 -- in a name
 abbrev pub step_name : Reading → ℕ → Option Reading
-step_name reading c = if is_name_character c
-    then (if nat_lt (length reading.word) 50 then Some (record reading {
-      word = reading.word
-          ++ c ∷ [];
-    }) else None)
+step_name reading c =
+    if is_name_character c
+    then (if nat_lt (length reading.word) 50 then Some (longer reading c) else None)
     else (if c == 10 && nat_lt 0 (length reading.word)
     then Some (next_line (with_line reading.key reading reading.word)) else None)
 

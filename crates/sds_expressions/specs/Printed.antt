@@ -38,15 +38,15 @@ text_of_operand (operand.Text text) = quoted text
 
 abbrev pub text_of_test : ColumnTest → List ℕ
 text_of_test test =
-    text_of_name test.old test.name ++ (codes " " ++ (text_of_sign test.differs ++ (codes " "
-    ++ text_of_operand test.operand)))
+    text_of_name test.old test.name
+    ++ (codes " " ++ (text_of_sign test.differs ++ (codes " " ++ text_of_operand test.operand)))
 
 -- tests, joined by ` or `
 abbrev pub text_of_tests : List ColumnTest → List ℕ
 text_of_tests [] = []
 text_of_tests (test ∷ []) = text_of_test test
-text_of_tests (test ∷ next ∷ tests) = text_of_test test ++ (codes " or "
-    ++ text_of_tests (next ∷ tests))
+text_of_tests (test ∷ next ∷ tests) =
+    text_of_test test ++ (codes " or " ++ text_of_tests (next ∷ tests))
 
 -- the four lines, in the order of the lookup
 abbrev pub text_of_lookup : Lookup → List ℕ
@@ -77,8 +77,8 @@ text_of_condition condition = condition.column ++ (codes "=" ++ text_of_compared
 abbrev pub text_of_conditions : List Condition → List ℕ
 text_of_conditions [] = []
 text_of_conditions (condition ∷ []) = text_of_condition condition
-text_of_conditions (condition ∷ next ∷ conditions) = text_of_condition condition ++ (codes " and "
-    ++ text_of_conditions (next ∷ conditions))
+text_of_conditions (condition ∷ next ∷ conditions) =
+    text_of_condition condition ++ (codes " and " ++ text_of_conditions (next ∷ conditions))
 
 -- a choice, with keywords in lower case
 abbrev pub text_of_choice : Subselect → List ℕ

@@ -1,6 +1,4 @@
--- The form of a `subselect` router's expression.
--- It is `c.external_id in (select COLUMN from TABLE where CONDITION and ..)`, or the same with
--- `c.node_id`.
+-- The form of a `subselect` router's expression: the nodes that a choice from a table names.
 use Rattle.std.specs.Prelude.{◌≡◌, ℕ, Bool, true, ◌||◌, ◌==◌, nat_le, List, [], ◌∷◌, length, map, codes}
 use Rattle.std.specs.Char.{to_ascii_lowercase}
 use Rattle.std.specs.List.{list_all}
@@ -55,12 +53,13 @@ ConditionsOf (condition ∷ next ∷ conditions) =
     ConditionOf condition ▸ SpacingAfter condition.value ▸ Keyword (codes "and") ▸ Gap
     ▸ ConditionsOf (next ∷ conditions)
 
--- the text is an expression that says this choice
+-- The text is an expression that says this choice, in the way of
+-- `c.external_id in (select COLUMN from TABLE where CONDITION and ..)`.
 abbrev pub IsSubselectForm : List ℕ → Subselect → Type 0
 IsSubselectForm text choice =
-    (Spacing ▸ Keyword (codes "c") ▸ Spacing ▸ Exactly (codes ".") ▸ Spacing
-    ▸ Keyword (keyword_of choice.by)
-    ▸ Gap ▸ Keyword (codes "in") ▸ Spacing ▸ Exactly (codes "(")
+    (Spacing ▸ Keyword (codes "c") ▸ Spacing ▸ Exactly (codes ".")
+    ▸ Spacing ▸ Keyword (keyword_of choice.by) ▸ Gap ▸ Keyword (codes "in")
+    ▸ Spacing ▸ Exactly (codes "(")
     ▸ Spacing ▸ Keyword (codes "select") ▸ Gap ▸ Name choice.column
     ▸ Gap ▸ Keyword (codes "from") ▸ Gap ▸ Name choice.table
     ▸ Gap ▸ Keyword (codes "where") ▸ Gap ▸ ConditionsOf choice.conditions

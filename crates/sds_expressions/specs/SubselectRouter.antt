@@ -6,6 +6,7 @@ use Rattle.std.specs.List.{starts_with}
 use Rattle.std.specs.Str.{bytes_eq}
 use Rattle.sds_types.specs.declared.subselect.Compared.{Compared}
 use Rattle.sds_types.specs.declared.subselect.Compared.TheVariants.{Routed, Text}
+use Rattle.sds_types.specs.declared.subselect.Condition.{Condition}
 use Rattle.sds_types.specs.declared.subselect.NodeColumn.{NodeColumn}
 use Rattle.sds_types.specs.declared.subselect.NodeColumn.TheVariants.{ExternalId, NodeId}
 use Rattle.sds_types.specs.declared.subselect.Subselect.{Subselect}
@@ -59,18 +60,15 @@ node_column word = if bytes_eq word (codes "node_id") then NodeId else ExternalI
 
 -- the reading with one condition more
 abbrev pub with_condition : Reading → Compared → Bool → Reading
-with_condition reading value spaced = moved (record reading {
-  conditions = reading.conditions
-      ++ record { column = reading.tested; value = value } ∷ [];
-}) slot.Next spaced
+with_condition reading value spaced =
+    let condition : Condition = record { column = reading.tested; value = value } in
+    moved (record reading { conditions = reading.conditions ++ condition ∷ [] }) slot.Next spaced
 
 -- after a whole word
 abbrev pub finished_at : Slot → Reading → Reading
 finished_at slot.Prefix reading = moved reading slot.Dot false
-finished_at slot.Which reading = moved (record reading {
-  by =
-      node_column reading.word;
-}) slot.In false
+finished_at slot.Which reading =
+    moved (record reading { by = node_column reading.word }) slot.In false
 finished_at slot.In reading = moved reading slot.Open false
 finished_at slot.Select reading = moved reading slot.Column false
 finished_at slot.Column reading = moved (record reading { column = reading.word }) slot.From false
@@ -135,13 +133,15 @@ fresh_at other reading c = before_keyword reading c
 abbrev pub fresh : Reading → ℕ → Option Reading
 fresh reading c = fresh_at reading.slot reading c
 
+-- the reading with one character more in its word
+abbrev pub longer : Reading → ℕ → Reading
+longer reading c = record reading { word = reading.word ++ c ∷ [] }
+
 -- in a name, and in a keyword
 abbrev pub in_name : Reading → ℕ → Option Reading
-in_name reading c = if is_name_character c
-    then (if nat_lt (length reading.word) 50 then Some (record reading {
-      word = reading.word
-          ++ c ∷ [];
-    }) else None)
+in_name reading c =
+    if is_name_character c
+    then (if nat_lt (length reading.word) 50 then Some (longer reading c) else None)
     else fresh (finished_at reading.slot reading) c
 
 abbrev pub in_keyword : Reading → ℕ → Option Reading
@@ -152,11 +152,8 @@ in_keyword reading c = if begins_keyword reading.slot (reading.word ++ to_ascii_
 
 -- after a quote that ends the text or is the first of two
 abbrev pub after_quote : Reading → ℕ → Option Reading
-after_quote reading c = if c == 39 then Some (record reading {
-  word = reading.word ++ c ∷ [];
-  slot =
-      slot.Quoted;
-})
+after_quote reading c =
+    if c == 39 then Some (record (longer reading c) { slot = slot.Quoted })
     else fresh (with_condition reading (Text reading.word) true) c
 
 -- outside quotes

@@ -62,7 +62,7 @@ pub struct Reading {
 }
 
 /// The tests of a `column` router's expression, or the place of the first character, from 0, from
-/// which no continuation is of the form; where the text ends too early that is its length.
+/// which no continuation has the form; where the text ends too early that is its length.
 pub fn column_tests(alloc: Global, text: &str) -> Result<Result<List<ColumnTest>, usize>, NoMemory>
     ensures form { IfOk result (λ read. ReadsAs IsColumnForm (chars text.now) read) }
     ensures decided { IfOk result (λ read. read ≡ wanted.tests_of (chars text.now)) }
