@@ -4,9 +4,9 @@ use Rattle.std.specs.List.{list_any, list_all}
 use Rattle.std.specs.Str.{chars}
 use Rattle.toml.specs.Data.{Members}
 use Rattle.sds_value.specs.declared.table.TableDef.{TableDef}
-use Rattle.sds_expressions.specs.ColumnTests.{tests_of}
-use Rattle.sds_expressions.specs.Lookups.{lookup_read}
-use Rattle.sds_expressions.specs.Subselects.{subselect_of}
+use Rattle.sds_expressions.specs.ColumnRouter.{tests_of}
+use Rattle.sds_expressions.specs.LookupRouter.{lookup_read}
+use Rattle.sds_expressions.specs.SubselectRouter.{subselect_of}
 use Rattle.sds_types.specs.declared.lookup.Lookup.{Lookup}
 use Rattle.sds_types.specs.declared.subselect.Compared.{Compared}
 use Rattle.sds_types.specs.declared.subselect.Compared.TheVariants.{Routed, Text}

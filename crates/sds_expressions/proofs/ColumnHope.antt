@@ -1,4 +1,4 @@
--- From each state of the reading of a `column` router's expression that is reached some way to go on is of the form.
+-- From each state of the reading of a `column` router's expression that is reached some way to go on has the form.
 use Rattle.std.proofs.Common.{◌≡◌, ℕ, ◌+◌, ◌⊎◌, inl, inr, Bool, true, false, ◌||◌, ◌==◌, if◌then◌else◌, nat_le, List, [], ◌∷◌, ◌++◌, length, drop, codes, Option, Some, None, Result, Err, refl, sym, ap, subst, ◌∙◌, arith}
 use Rattle.std.proofs.lemmas.Bool.{and_parts}
 use Rattle.std.proofs.lemmas.Bool.Decides.{nat_tests, Decides-eqb}
@@ -10,26 +10,25 @@ use Rattle.std.specs.Str.{all_scalars}
 use Rattle.sds_types.specs.declared.column_test.ColumnTest.{ColumnTest}
 use Rattle.sds_types.specs.declared.column_test.Operand.{Operand}
 use Rattle.sds_types.specs.declared.column_test.Operand.TheVariants.{NodeId, ExternalId, NodeGroupId, Text}
-use Rattle.sds_expressions.specs.declared.tests_read.Part.{Part}
-use Rattle.sds_expressions.specs.declared.tests_read.Part.TheVariants as part
-use Rattle.sds_expressions.specs.declared.tests_read.Reading.{Reading}
-use Rattle.sds_expressions.specs.BadPlaces.{IsFirstBad}
-use Rattle.sds_expressions.specs.ColumnTests as column
+use Rattle.sds_expressions.specs.declared.column_router.Part.{Part}
+use Rattle.sds_expressions.specs.declared.column_router.Part.TheVariants as part
+use Rattle.sds_expressions.specs.declared.column_router.Reading.{Reading}
+use Rattle.sds_expressions.proofs.Readings.{IsBadPlace}
+use Rattle.sds_value.specs.Names.{is_name_character}
+use Rattle.sds_expressions.specs.ColumnForm.{begins_old, is_bare_character}
+use Rattle.sds_expressions.specs.ColumnRouter as column
 use Rattle.sds_expressions.proofs.Readings as readings
 
-abbrev finish : Reading → Option (List ColumnTest)
-finish reading = column.tests_at reading.part reading
-
 abbrev CanEnd : Reading → Type 0
-CanEnd reading = readings.CanEnd column.step finish reading
+CanEnd reading = readings.CanEnd column.step column.finish reading
 
-done : (reading : Reading) (tests : List ColumnTest) → finish reading ≡ Some tests → CanEnd reading
-done reading tests is = readings.done column.step finish reading tests is
+done : (reading : Reading) (tests : List ColumnTest) → column.finish reading ≡ Some tests → CanEnd reading
+done reading tests is = readings.done column.step column.finish reading tests is
 
 one_more : (reading next : Reading) (c : ℕ) → column.step reading c ≡ Some next → scalar c ≡ true → CanEnd next → CanEnd reading
-one_more reading next c is good can = readings.one_more column.step finish reading next c is good can
+one_more reading next c is good can = readings.one_more column.step column.finish reading next c is good can
 
--- in a word behind a colon stands the front of a word
+-- in a word after a colon stands a prefix of a word
 abbrev HoldsAt : Part → List ℕ → Type 0
 HoldsAt part.Colon text = column.begins_word text ≡ true
 HoldsAt other text = Unit {0}
@@ -58,13 +57,13 @@ named reading next c e =
     branch (c == 32) _ _ next (λ _ f. kept _ next tt f) (λ f. branch (c == 61) _ _ next (λ _ g. kept _ next tt g) (λ g. branch (c == 33) _ _ next (λ _ h. kept _ next tt h) (gone next) g) f) e
 
 before : (reading next : Reading) (c : ℕ) → column.step_before reading c ≡ Some next → Holds next
-before reading next c e = branch (c == 32) _ _ next (λ _ f. kept _ next tt f) (λ f. branch (column.is_name_character c) _ _ next (λ _ g. kept _ next tt g) (gone next) f) e
+before reading next c e = branch (c == 32) _ _ next (λ _ f. kept _ next tt f) (λ f. branch (is_name_character c) _ _ next (λ _ g. kept _ next tt g) (gone next) f) e
 
 step_kept : (at : Part) (reading next : Reading) (c : ℕ) → reading.part ≡ at → Holds reading → column.step_at at reading c ≡ Some next → Holds next
 step_kept part.Before reading next c is holds e = before reading next c e
 step_kept part.Fresh reading next c is holds e = before reading next c e
 step_kept part.Name reading next c is holds e =
-    branch (column.is_name_character c) _ _ next (λ _ f. branch (column.is_short (reading.name ++ c ∷ [])) _ _ next (λ _ g. kept _ next holds g) (gone next) f)
+    branch (is_name_character c) _ _ next (λ _ f. branch (column.is_short (reading.name ++ c ∷ [])) _ _ next (λ _ g. kept _ next holds g) (gone next) f)
     (λ f. branch (column.is_whole reading.name) _ _ next (λ _ g. named reading next c g) (gone next) f) e
 step_kept part.Named reading next c is holds e = named reading next c e
 step_kept part.Bang reading next c is holds e = branch (c == 61) _ _ next (λ _ f. kept _ next tt f) (gone next) e
@@ -72,16 +71,16 @@ step_kept part.Sign reading next c is holds e =
     branch (c == 32) _ _ next (λ _ f. kept _ next holds f)
     (λ f. branch (c == 39) _ _ next (λ _ g. kept _ next tt g)
     (λ g. branch (c == 58) _ _ next (λ _ h. kept _ next refl h)
-    (λ h. branch (column.is_bare_character c) _ _ next (λ _ i. kept _ next tt i) (gone next) h) g) f) e
+    (λ h. branch (is_bare_character c) _ _ next (λ _ i. kept _ next tt i) (gone next) h) g) f) e
 step_kept part.Colon reading next c is holds e =
     branch (column.begins_word (reading.text ++ c ∷ [])) _ _ next (λ test f. kept _ next (rw is test) f)
     (λ f. ended reading next c (column.operand_at part.Colon reading.text) f) e
 step_kept part.Bare reading next c is holds e =
-    branch (column.is_bare_character c) _ _ next (λ _ f. kept _ next (rw is tt) f) (λ f. ended reading next c (column.operand_at part.Bare reading.text) f) e
+    branch (is_bare_character c) _ _ next (λ _ f. kept _ next (rw is tt) f) (λ f. ended reading next c (column.operand_at part.Bare reading.text) f) e
 step_kept part.Quoted reading next c is holds e = branch (c == 39) _ _ next (λ _ f. kept _ next tt f) (λ f. kept _ next (rw is tt) f) e
 step_kept part.Quote reading next c is holds e =
     branch (c == 39) _ _ next (λ _ f. kept _ next tt f) (λ f. ended reading next c (column.operand_at part.Quote reading.text) f) e
-step_kept part.Behind reading next c is holds e =
+step_kept part.After reading next c is holds e =
     branch (c == 32) _ _ next (λ _ f. kept _ next holds f) (λ f. branch (c == 10) _ _ next (λ _ g. kept _ next tt g) (λ g. branch (c == 111) _ _ next (λ _ h. kept _ next tt h) (gone next) g) f) e
 step_kept part.Letter reading next c is holds e = branch (c == 114) _ _ next (λ _ f. kept _ next tt f) (gone next) e
 step_kept part.Joined reading next c is holds e = branch (c == 32) _ _ next (λ _ f. kept _ next tt f) (gone next) e
@@ -89,7 +88,7 @@ step_kept part.Joined reading next c is holds e = branch (c == 32) _ _ next (λ 
 keeps : (reading next : Reading) (c : ℕ) → Holds reading → column.step reading c ≡ Some next → Holds next
 keeps reading next c holds e = step_kept reading.part reading next c refl holds e
 
--- behind a value, and before one
+-- after a value, and before one
 can_bare : (reading : Reading) → reading.part ≡ part.Bare → CanEnd reading
 can_bare reading is = done reading (reading.tests ++ column.test_of reading (column.bare_operand reading.text) ∷ []) (rw is refl)
 
@@ -105,7 +104,7 @@ can_sign reading is = let next = record reading { text = 98 ∷ []; part = part.
 can_bang : (reading : Reading) → reading.part ≡ part.Bang → CanEnd reading
 can_bang reading is = let next = record reading { differs = true; part = part.Sign } in one_more reading next 61 (rw is refl) refl (can_sign next refl)
 
--- behind a name, and in one
+-- after a name, and in one
 can_named : (reading : Reading) → reading.part ≡ part.Named → CanEnd reading
 can_named reading is = let next = record reading { differs = false; part = part.Sign } in one_more reading next 61 (rw is refl) refl (can_sign next refl)
 
@@ -116,14 +115,14 @@ no_more : (xs : List ℕ) → nat_le 1 (length xs) ≡ false → xs ≡ []
 no_more [] h = refl
 no_more (x ∷ xs) h = absurd (grind (arith, nat_tests))
 
-old_name : (name : List ℕ) → column.asks_old name ≡ true → name ≡ codes "OLD_" ++ drop 4 name
-old_name name e = (starts_is Decides-eqb name (codes "OLD_") (column.asks_old name) refl).0 e
+pub old_name : (name : List ℕ) → begins_old name ≡ true → name ≡ codes "OLD_" ++ drop 4 name
+old_name name e = (starts_is Decides-eqb name (codes "OLD_") (begins_old name) refl).0 e
 
 -- a name that has no character yet is empty or `OLD_`
 nameless : (name : List ℕ) → column.is_whole name ≡ false → (name ≡ []) ⊎ (name ≡ codes "OLD_")
-nameless name h = at (column.asks_old name) refl
+nameless name h = at (begins_old name) refl
   where
-    at : (t : Bool) → column.asks_old name ≡ t → (name ≡ []) ⊎ (name ≡ codes "OLD_")
+    at : (t : Bool) → begins_old name ≡ t → (name ≡ []) ⊎ (name ≡ codes "OLD_")
     at true e = let nothing : drop 4 name ≡ [] = no_more (drop 4 name) (rw e at h) in inr (old_name name e ∙ ap (λ rest. codes "OLD_" ++ rest) nothing)
     at false e = inl (no_more name (rw e at h))
 
@@ -150,7 +149,7 @@ can_joined reading is = one_more reading (column.at_part reading part.Before) 32
 can_letter : (reading : Reading) → reading.part ≡ part.Letter → CanEnd reading
 can_letter reading is = one_more reading (column.at_part reading part.Joined) 114 (rw is refl) refl (can_joined (column.at_part reading part.Joined) refl)
 
--- in a word behind a colon
+-- in a word after a colon
 abbrev IsWord : List ℕ → Type 0
 IsWord word = (word ≡ codes "NODE_ID") ⊎ ((word ≡ codes "EXTERNAL_ID") ⊎ (word ≡ codes "NODE_GROUP_ID"))
 
@@ -228,26 +227,13 @@ can_at part.Colon reading is holds = can_colon reading is holds
 can_at part.Bare reading is holds = can_bare reading is
 can_at part.Quoted reading is holds = can_quoted reading is
 can_at part.Quote reading is holds = can_quote reading is
-can_at part.Behind reading is holds = done reading reading.tests (rw is refl)
+can_at part.After reading is holds = done reading reading.tests (rw is refl)
 can_at part.Letter reading is holds = can_letter reading is
 can_at part.Joined reading is holds = can_joined reading is
 
 can : (reading : Reading) → Holds reading → CanEnd reading
 can reading holds = can_at reading.part reading refl holds
 
--- the reading of the definition
-end_same : (place : ℕ) (tests : Option (List ColumnTest)) → readings.ended place tests ≡ column.end_of place tests
-end_same place None = refl
-end_same place (Some tests) = refl
-
-same : (text : List ℕ) (place : ℕ) (reading : Reading) → readings.run column.step finish place reading text ≡ column.tests_from place reading text
-same [] place reading = end_same place (finish reading)
-same (c ∷ cs) place reading = at (column.step reading c) (λ next. same cs (place + 1) next)
-  where
-    at : (o : Option Reading) → ((next : Reading) → readings.run column.step finish (place + 1) next cs ≡ column.tests_from (place + 1) next cs)
-        → ◌≡◌ {A = Result (List ColumnTest) ℕ} (readings.on place (λ next. readings.run column.step finish (place + 1) next cs) o) (elim o [ None ↦ Err place | Some next ↦ column.tests_from (place + 1) next cs ])
-    at None more = refl
-    at (Some next) more = more next
-
-pub column_bad : (text : List ℕ) (place : ℕ) → column.tests_of text ≡ Err place → IsFirstBad column.tests_of text place
-column_bad text place is = readings.first column.step finish column.tests_of column.beginning (λ text. same text 0 column.beginning) Holds keeps can tt text place is
+-- the first bad place
+pub column_bad : (text : List ℕ) (place : ℕ) → column.tests_of text ≡ Err place → IsBadPlace column.tests_of text place
+column_bad text place is = readings.first column.step column.finish column.tests_of column.beginning (λ text. refl) Holds keeps can tt text place is

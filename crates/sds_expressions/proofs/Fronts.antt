@@ -24,11 +24,11 @@ no_mark : (mark : ℕ) (text : List ℕ) → position_or_len (λ c. c == mark) t
 no_mark mark [] h = refl
 no_mark mark (b ∷ bs) h = no_mark_step (b == mark) mark b bs (no_mark mark bs) refl h
 
--- a text with the mark is what stands before it, and the pieces of what stands behind it
-cut_front : (n m b : ℕ) (bs : List ℕ) → n ≡ suc m → take n (b ∷ bs) ≡ b ∷ take m bs
+-- a text with the mark is what stands before it, and the pieces of what stands after it
+pub cut_front : (n m b : ℕ) (bs : List ℕ) → n ≡ suc m → take n (b ∷ bs) ≡ b ∷ take m bs
 cut_front n m b bs h = rw h refl
 
-cut_back : (n m b : ℕ) (bs : List ℕ) → n ≡ suc m → drop (n + 1) (b ∷ bs) ≡ drop (m + 1) bs
+pub cut_back : (n m b : ℕ) (bs : List ℕ) → n ≡ suc m → drop (n + 1) (b ∷ bs) ≡ drop (m + 1) bs
 cut_back n m b bs h = rw (add-one, add-one, h) refl
 
 at_mark_step : (t : Bool) (mark b : ℕ) (bs : List ℕ)

@@ -5,3 +5,15 @@ pub mod Readings
 pub mod ColumnHope
 pub mod LookupHope
 pub mod SubselectHope
+pub mod Accepting
+pub mod ColumnSound
+pub mod ColumnWhole
+pub mod ByForm
+pub mod LookupSound
+pub mod LookupWhole
+pub mod SubselectSound
+pub mod SubselectWhole
+pub mod Printing
+pub mod Saying
+pub mod ComputedSaying
+pub mod Dividing

@@ -1,4 +1,4 @@
--- From each state of the reading of a `lookuptable` router's expression that is reached some way to go on is of the form.
+-- From each state of the reading of a `lookuptable` router's expression that is reached some way to go on has the form.
 use Rattle.std.proofs.Common.{◌≡◌, ℕ, zero, suc, ◌+◌, ◌≤◌, Bool, true, false, not, ◌&&◌, ◌||◌, ◌==◌, if◌then◌else◌, nat_lt, List, [], ◌∷◌, ◌++◌, length, drop, codes, Option, Some, None, is_some, Result, Err, refl, sym, ap, subst, ◌∙◌, arith}
 use Rattle.std.proofs.lemmas.Bool.{and_parts}
 use Rattle.std.proofs.lemmas.Bool.Decides.{nat_tests}
@@ -8,36 +8,34 @@ use Rattle.std.proofs.Math.Utf8.{scalar}
 use Rattle.std.specs.List.{starts_with}
 use Rattle.std.specs.Str.{all_scalars, bytes_eq}
 use Rattle.sds_types.specs.declared.lookup.Lookup.{Lookup}
-use Rattle.sds_expressions.specs.declared.lookup_read.LookupKey.{LookupKey}
-use Rattle.sds_expressions.specs.declared.lookup_read.LookupKey.TheVariants.{Table, Column, LookupColumn, ExternalId}
-use Rattle.sds_expressions.specs.declared.lookup_read.Part.{Part}
-use Rattle.sds_expressions.specs.declared.lookup_read.Part.TheVariants as part
-use Rattle.sds_expressions.specs.declared.lookup_read.Reading.{Reading}
-use Rattle.sds_expressions.specs.BadPlaces.{IsFirstBad}
-use Rattle.sds_expressions.specs.ColumnTests.{is_name_character}
-use Rattle.sds_expressions.specs.Lookups as lookup
+use Rattle.sds_expressions.specs.declared.lookup_router.LookupKey.{LookupKey}
+use Rattle.sds_expressions.specs.declared.lookup_router.LookupKey.TheVariants.{Table, Column, LookupColumn, ExternalId}
+use Rattle.sds_expressions.specs.declared.lookup_router.Part.{Part}
+use Rattle.sds_expressions.specs.declared.lookup_router.Part.TheVariants as part
+use Rattle.sds_expressions.specs.declared.lookup_router.Reading.{Reading}
+use Rattle.sds_expressions.proofs.Readings.{IsBadPlace}
+use Rattle.sds_value.specs.Names.{is_name_character}
+use Rattle.sds_expressions.specs.LookupRouter as lookup
+use Rattle.sds_expressions.specs.LookupForm.{key_text}
 use Rattle.sds_expressions.proofs.ColumnHope.{front_is, rest_is, back_scalars}
 use Rattle.sds_expressions.proofs.Readings as readings
 
-abbrev finish : Reading → Option Lookup
-finish reading = lookup.lookup_at reading.part reading
-
 abbrev CanEnd : Reading → Type 0
-CanEnd reading = readings.CanEnd lookup.step finish reading
+CanEnd reading = readings.CanEnd lookup.step lookup.finish reading
 
-done : (reading : Reading) (value : Lookup) → finish reading ≡ Some value → CanEnd reading
-done reading value is = readings.done lookup.step finish reading value is
+done : (reading : Reading) (value : Lookup) → lookup.finish reading ≡ Some value → CanEnd reading
+done reading value is = readings.done lookup.step lookup.finish reading value is
 
 one_more : (reading next : Reading) (c : ℕ) → lookup.step reading c ≡ Some next → scalar c ≡ true → CanEnd next → CanEnd reading
-one_more reading next c is good can = readings.one_more lookup.step finish reading next c is good can
+one_more reading next c is good can = readings.one_more lookup.step lookup.finish reading next c is good can
 
--- before a name stands a proper front of a key whose line is still to come; behind the last line all four names are there
+-- before a name stands a proper prefix of a key whose line is still to come; after the last line all four names are there
 record InKey (reading : Reading) : Type 0 where
   key : LookupKey
   more : ℕ
   rest : List ℕ
   still : lookup.is_open reading key ≡ true
-  is : lookup.key_text key ≡ reading.word ++ more ∷ rest
+  is : key_text key ≡ reading.word ++ more ∷ rest
 
 abbrev HoldsAt : Part → Reading → Type 0
 HoldsAt part.Key reading = InKey reading
@@ -100,14 +98,14 @@ no_key Column false false false false e = refl
 no_key LookupColumn false false false false e = refl
 no_key ExternalId false false false false e = refl
 
--- no key is a proper front of a key
+-- no key is a proper prefix of a key
 no_true : false ≡ true → ⊥
 no_true e = cc
 
 no_more : (c : ℕ) (rest : List ℕ) → [] ≡ c ∷ rest → ⊥
 no_more c rest e = cc
 
-apart : (key other : LookupKey) (c : ℕ) (rest : List ℕ) → lookup.key_text key ≡ lookup.key_text other ++ c ∷ rest → ⊥
+apart : (key other : LookupKey) (c : ℕ) (rest : List ℕ) → key_text key ≡ key_text other ++ c ∷ rest → ⊥
 apart Table Table c rest e = no_more c rest (ap (drop 13) e)
 apart Table Column c rest e = no_true (front_is (codes "LOOKUP_TABLE=") (codes "KEY_COLUMN=") (c ∷ rest) e)
 apart Table LookupColumn c rest e = no_true (front_is (codes "LOOKUP_TABLE=") (codes "LOOKUP_KEY_COLUMN=") (c ∷ rest) e)
@@ -125,30 +123,30 @@ apart ExternalId Column c rest e = no_true (front_is (codes "EXTERNAL_ID_COLUMN=
 apart ExternalId LookupColumn c rest e = no_true (front_is (codes "EXTERNAL_ID_COLUMN=") (codes "LOOKUP_KEY_COLUMN=") (c ∷ rest) e)
 apart ExternalId ExternalId c rest e = no_more c rest (ap (drop 19) e)
 
-not_key : (key other : LookupKey) (reading : Reading) (word : List ℕ) (c : ℕ) (rest : List ℕ) → lookup.key_text key ≡ word ++ c ∷ rest → lookup.is_key reading word other ≡ false
-not_key key other reading word c rest e = at (bytes_eq word (lookup.key_text other)) refl
+not_key : (key other : LookupKey) (reading : Reading) (word : List ℕ) (c : ℕ) (rest : List ℕ) → key_text key ≡ word ++ c ∷ rest → lookup.is_key reading word other ≡ false
+not_key key other reading word c rest e = at (bytes_eq word (key_text other)) refl
   where
-    at : (t : Bool) → bytes_eq word (lookup.key_text other) ≡ t → (lookup.is_open reading other && bytes_eq word (lookup.key_text other)) ≡ false
-    at true f = let same : word ≡ lookup.key_text other = (bytes_eq-Decides word (lookup.key_text other)).0 f in absurd (apart key other c rest (e ∙ ap (λ w. w ++ c ∷ rest) same))
+    at : (t : Bool) → bytes_eq word (key_text other) ≡ t → (lookup.is_open reading other && bytes_eq word (key_text other)) ≡ false
+    at true f = let same : word ≡ key_text other = (bytes_eq-Decides word (key_text other)).0 f in absurd (apart key other c rest (e ∙ ap (λ w. w ++ c ∷ rest) same))
     at false f = rw f (and_no (lookup.is_open reading other))
 
-not_whole : (key : LookupKey) (reading : Reading) (word : List ℕ) (c : ℕ) (rest : List ℕ) → lookup.key_text key ≡ word ++ c ∷ rest → lookup.key_of reading word ≡ None
+pub not_whole : (key : LookupKey) (reading : Reading) (word : List ℕ) (c : ℕ) (rest : List ℕ) → key_text key ≡ word ++ c ∷ rest → lookup.key_of reading word ≡ None
 not_whole key reading word c rest e =
     rw (not_key key Table reading word c rest e, not_key key Column reading word c rest e, not_key key LookupColumn reading word c rest e, not_key key ExternalId reading word c rest e) refl
 
-whole_key : (key : LookupKey) (reading : Reading) → lookup.is_open reading key ≡ true → lookup.key_of reading (lookup.key_text key) ≡ Some key
+pub whole_key : (key : LookupKey) (reading : Reading) → lookup.is_open reading key ≡ true → lookup.key_of reading (key_text key) ≡ Some key
 whole_key Table reading still = rw still refl
 whole_key Column reading still = rw (and_no (lookup.is_open reading Table), still) refl
 whole_key LookupColumn reading still = rw (and_no (lookup.is_open reading Table), and_no (lookup.is_open reading Column), still) refl
 whole_key ExternalId reading still = rw (and_no (lookup.is_open reading Table), and_no (lookup.is_open reading Column), and_no (lookup.is_open reading LookupColumn), still) refl
 
-begins_key : (key : LookupKey) (reading : Reading) (word rest : List ℕ) → lookup.is_open reading key ≡ true → lookup.key_text key ≡ word ++ rest → lookup.begins reading word ≡ true
+pub begins_key : (key : LookupKey) (reading : Reading) (word rest : List ℕ) → lookup.is_open reading key ≡ true → key_text key ≡ word ++ rest → lookup.begins reading word ≡ true
 begins_key key reading word rest still e =
-    let this : lookup.begins_key reading word key ≡ true = rw (still, front_is (lookup.key_text key) word rest e) refl in
+    let this : lookup.begins_key reading word key ≡ true = rw (still, front_is (key_text key) word rest e) refl in
     any_of key (lookup.begins_key reading word Table) (lookup.begins_key reading word Column) (lookup.begins_key reading word LookupColumn) (lookup.begins_key reading word ExternalId)
     (chosen_is key (lookup.begins_key reading word) ∙ this)
 
--- in a key, and behind a line
+-- in a key, and after a line
 key_holds : (reading : Reading) → reading.part ≡ part.Key → InKey reading → Holds reading
 key_holds reading is holds = subst (λ (at : Part). HoldsAt at reading) (sym is) holds
 
@@ -156,10 +154,10 @@ key_kept : (reading next : Reading) (word : List ℕ) (key : Option LookupKey) �
 key_kept reading next word (Some key) is none e = kept (record reading { word = []; key = key; part = part.Name }) next tt e
 key_kept reading next word None is none e = branch (lookup.begins reading word) (Some (record reading { word = word })) None next (λ test f. kept (record reading { word = word }) next (key_holds (record reading { word = word }) is (front test)) f) (gone next) e
   where
-    longer : (key : LookupKey) (rest : List ℕ) → lookup.is_open (record reading { word = word }) key ≡ true → lookup.is_key reading word key ≡ false → lookup.is_open reading key ≡ true → lookup.key_text key ≡ word ++ rest → InKey (record reading { word = word })
+    longer : (key : LookupKey) (rest : List ℕ) → lookup.is_open (record reading { word = word }) key ≡ true → lookup.is_key reading word key ≡ false → lookup.is_open reading key ≡ true → key_text key ≡ word ++ rest → InKey (record reading { word = word })
     longer key [] still other still' f =
-        let same : word ≡ lookup.key_text key = sym (f ∙ append-nil word) in
-        let is_same : bytes_eq word (lookup.key_text key) ≡ true = (bytes_eq-Decides word (lookup.key_text key)).1 same in
+        let same : word ≡ key_text key = sym (f ∙ append-nil word) in
+        let is_same : bytes_eq word (key_text key) ≡ true = (bytes_eq-Decides word (key_text key)).1 same in
         let whole : lookup.is_key reading word key ≡ true = rw (still', is_same) refl in
         absurd (cc)
     longer key (c ∷ rest) still other still' f = record { key = key; more = c; rest = rest; still = still; is = f }
@@ -173,11 +171,11 @@ key_kept reading next word None is none e = branch (lookup.begins reading word) 
     front : lookup.begins reading word ≡ true → InKey (record reading { word = word })
     front test =
         let found = which (lookup.begins_key reading word Table) (lookup.begins_key reading word Column) (lookup.begins_key reading word LookupColumn) (lookup.begins_key reading word ExternalId) test in
-        let this = and_parts (lookup.is_open reading found.0) (starts_with (λ a b. a == b) (lookup.key_text found.0) word) (sym (chosen_is found.0 (lookup.begins_key reading word)) ∙ found.1) in
+        let this = and_parts (lookup.is_open reading found.0) (starts_with (λ a b. a == b) (key_text found.0) word) (sym (chosen_is found.0 (lookup.begins_key reading word)) ∙ found.1) in
         let other = sym (chosen_is found.0 (lookup.is_key reading word)) ∙ no_key found.0 (lookup.is_key reading word Table) (lookup.is_key reading word Column) (lookup.is_key reading word LookupColumn) (lookup.is_key reading word ExternalId) none in
-        longer found.0 (drop (length word) (lookup.key_text found.0)) (word_open found.0 this.0) other this.0 (rest_is (lookup.key_text found.0) word this.1)
+        longer found.0 (drop (length word) (key_text found.0)) (word_open found.0 this.0) other this.0 (rest_is (key_text found.0) word this.1)
 
-key_head : (key : LookupKey) → (c : ℕ) × (rest : List ℕ) × (lookup.key_text key ≡ [] ++ c ∷ rest)
+pub key_head : (key : LookupKey) → (c : ℕ) × (rest : List ℕ) × (key_text key ≡ [] ++ c ∷ rest)
 key_head Table = (76, drop 1 (codes "LOOKUP_TABLE="), refl)
 key_head Column = (75, drop 1 (codes "KEY_COLUMN="), refl)
 key_head LookupColumn = (76, drop 1 (codes "LOOKUP_KEY_COLUMN="), refl)
@@ -196,7 +194,7 @@ key_to_come reading e =
     let found = still_open reading.table reading.column reading.lookup_column reading.external_id e in
     (found.0, sym (chosen_is found.0 (lookup.is_open reading)) ∙ found.1)
 
-line_kept : (line : Reading) (value : Option Lookup) → lookup.lookup_of line ≡ value → HoldsAt (lookup.part_behind value) (lookup.next_line line)
+line_kept : (line : Reading) (value : Option Lookup) → lookup.lookup_of line ≡ value → HoldsAt (lookup.part_after value) (lookup.next_line line)
 line_kept line (Some value) e = (value, e)
 line_kept line None e =
     let found = key_to_come (lookup.next_line line) e in
@@ -248,7 +246,7 @@ line_gaps Column reading word name other = refl
 line_gaps LookupColumn reading word name other = refl
 line_gaps ExternalId reading word name other = refl
 
-key_scalars : (key : LookupKey) → all_scalars (lookup.key_text key) ≡ true
+key_scalars : (key : LookupKey) → all_scalars (key_text key) ≡ true
 key_scalars Table = refl
 key_scalars Column = refl
 key_scalars LookupColumn = refl
@@ -262,20 +260,20 @@ more_open ExternalId reading word h = h
 
 -- from within a key to its name
 can_key : (most : ℕ) → ((next : Reading) → next.part ≡ part.Name → gaps (lookup.with_line next.key next next.word) ≤ most → CanEnd next)
-    → (rest : List ℕ) (c : ℕ) (reading : Reading) (key : LookupKey) → reading.part ≡ part.Key → lookup.is_open reading key ≡ true → lookup.key_text key ≡ reading.word ++ c ∷ rest → gaps reading ≤ suc most → CanEnd reading
+    → (rest : List ℕ) (c : ℕ) (reading : Reading) (key : LookupKey) → reading.part ≡ part.Key → lookup.is_open reading key ≡ true → key_text key ≡ reading.word ++ c ∷ rest → gaps reading ≤ suc most → CanEnd reading
 can_key most name [] c reading key is still e few =
     let good : all_scalars (c ∷ []) ≡ true = back_scalars reading.word (c ∷ []) (ap all_scalars (sym e) ∙ key_scalars key) in
     let next = before_name key reading in
     one_more reading next c (rw (is, ← e, whole_key key reading still) refl) (and_parts (scalar c) true good).0 (name next refl (fewer key reading most still few))
 can_key most name (d ∷ rest) c reading key is still e few =
-    let longer : lookup.key_text key ≡ (reading.word ++ c ∷ []) ++ d ∷ rest = e ∙ sym (append_assoc reading.word (c ∷ []) (d ∷ rest)) in
+    let longer : key_text key ≡ (reading.word ++ c ∷ []) ++ d ∷ rest = e ∙ sym (append_assoc reading.word (c ∷ []) (d ∷ rest)) in
     let good : all_scalars (c ∷ d ∷ rest) ≡ true = back_scalars reading.word (c ∷ d ∷ rest) (ap all_scalars (sym e) ∙ key_scalars key) in
     let word = reading.word ++ c ∷ [] in
     let next = record reading { word = word } in
     one_more reading next c (rw (is, not_whole key reading word d rest longer, begins_key key reading word (d ∷ rest) still longer) refl) (and_parts (scalar c) (all_scalars (d ∷ rest)) good).0
     (can_key most name rest d next key is (more_open key reading word still) longer few)
 
--- from a name with a character behind its line
+-- from a name with a character after its line
 is_long : (word : List ℕ) (w : ℕ) (ws : List ℕ) → word ≡ w ∷ ws → nat_lt 0 (length word) ≡ true
 is_long word w ws e = rw e (longer (length ws))
   where
@@ -288,7 +286,7 @@ written most behind reading w ws is word few = at (lookup.lookup_of (lookup.with
   where
     at : (value : Option Lookup) → lookup.lookup_of (lookup.with_line reading.key reading reading.word) ≡ value → CanEnd reading
     at (Some value) e =
-        let ends : finish reading ≡ lookup.last_line reading reading.word = ap (λ (at : Part). lookup.lookup_at at reading) is in
+        let ends : lookup.finish reading ≡ lookup.last_line reading reading.word = ap (λ (at : Part). lookup.lookup_at at reading) is in
         let last : lookup.last_line reading reading.word ≡ lookup.last_line reading (w ∷ ws) = ap (lookup.last_line reading) word in
         let line : lookup.lookup_of (lookup.with_line reading.key reading reading.word) ≡ lookup.last_line reading (w ∷ ws) = ap (λ (x : List ℕ). lookup.lookup_of (lookup.with_line reading.key reading x)) word in
         done reading value (ends ∙ (last ∙ (sym line ∙ e)))
@@ -325,22 +323,9 @@ can_at part.Ended reading is holds = done reading holds.0 (rw is holds.1)
 can : (reading : Reading) → Holds reading → CanEnd reading
 can reading holds = can_at reading.part reading refl holds
 
--- the reading of the definition
-end_same : (place : ℕ) (value : Option Lookup) → readings.ended place value ≡ lookup.end_of place value
-end_same place None = refl
-end_same place (Some value) = refl
-
-same : (text : List ℕ) (place : ℕ) (reading : Reading) → readings.run lookup.step finish place reading text ≡ lookup.lookup_from place reading text
-same [] place reading = end_same place (finish reading)
-same (c ∷ cs) place reading = at (lookup.step reading c) (λ next. same cs (place + 1) next)
-  where
-    at : (o : Option Reading) → ((next : Reading) → readings.run lookup.step finish (place + 1) next cs ≡ lookup.lookup_from (place + 1) next cs)
-        → ◌≡◌ {A = Result (Lookup) ℕ} (readings.on place (λ next. readings.run lookup.step finish (place + 1) next cs) o) (elim o [ None ↦ Err place | Some next ↦ lookup.lookup_from (place + 1) next cs ])
-    at None more = refl
-    at (Some next) more = more next
-
+-- the first bad place
 at_first : Holds lookup.beginning
 at_first = record { key = Table; more = 76; rest = drop 1 (codes "LOOKUP_TABLE="); still = refl; is = refl }
 
-pub lookup_bad : (text : List ℕ) (place : ℕ) → lookup.lookup_read text ≡ Err place → IsFirstBad lookup.lookup_read text place
-lookup_bad text place is = readings.first lookup.step finish lookup.lookup_read lookup.beginning (λ text. same text 0 lookup.beginning) Holds keeps can at_first text place is
+pub lookup_bad : (text : List ℕ) (place : ℕ) → lookup.lookup_read text ≡ Err place → IsBadPlace lookup.lookup_read text place
+lookup_bad text place is = readings.first lookup.step lookup.finish lookup.lookup_read lookup.beginning (λ text. refl) Holds keeps can at_first text place is

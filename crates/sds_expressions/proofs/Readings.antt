@@ -3,20 +3,13 @@
 use Rattle.std.proofs.Common.{◌≡◌, ℕ, suc, ◌+◌, ◌<◌, ◌≤◌, true, List, [], ◌∷◌, ◌++◌, length, take, Option, Some, None, Result, Ok, Err, refl, sym, ap, subst, ◌∙◌, arith}
 use Rattle.std.proofs.Math.Utf8.{scalar}
 use Rattle.std.specs.Str.{all_scalars}
-use Rattle.sds_expressions.specs.BadPlaces.{IsFirstBad}
+use Rattle.sds_expressions.specs.Automaton.{ended, on, run}
 
--- the value of a text that is read from a state, or the place of the character that leads to none
-abbrev pub ended : {T : Type 0} → ℕ → Option T → Result T ℕ
-ended place (Some value) = Ok value
-ended place None = Err place
-
-abbrev pub on : {R T : Type 0} → ℕ → (R → Result T ℕ) → Option R → Result T ℕ
-on place rest (Some next) = rest next
-on place rest None = Err place
-
-abbrev pub run : {R T : Type 0} → (R → ℕ → Option R) → (R → Option T) → ℕ → R → List ℕ → Result T ℕ
-run step finish place reading [] = ended place (finish reading)
-run step finish place reading (c ∷ cs) = on place (λ next. run step finish (place + 1) next cs) (step reading c)
+-- up to the place some text that goes on is read, and no text that goes on after it is
+pub record IsBadPlace {T : Type 0} (read : List ℕ → Result T ℕ) (text : List ℕ) (place : ℕ) : Type 0 where
+  pub within : place ≤ length text
+  pub hopeful : (more : List ℕ) × (all_scalars more ≡ true) × (value : T) × (read (take place text ++ more) ≡ Ok value)
+  pub hopeless : place < length text → (more : List ℕ) → read (take (place + 1) text ++ more) ≡ Err place
 
 -- some way to go on from a state is read
 abbrev pub CanEnd : {R T : Type 0} → (R → ℕ → Option R) → (R → Option T) → R → Type 0
@@ -74,7 +67,7 @@ first_bad {R} {T} step finish Holds keeps can (c ∷ cs) start reading place hol
 -- of a text that is read from the beginning
 pub first : {R T : Type 0} (step : R → ℕ → Option R) (finish : R → Option T) (read : List ℕ → Result T ℕ) (beginning : R) → ((text : List ℕ) → run step finish 0 beginning text ≡ read text)
     → (Holds : R → Type 0) → ((reading next : R) (c : ℕ) → Holds reading → step reading c ≡ Some next → Holds next) → ((reading : R) → Holds reading → CanEnd step finish reading)
-    → Holds beginning → (text : List ℕ) (place : ℕ) → read text ≡ Err place → IsFirstBad read text place
+    → Holds beginning → (text : List ℕ) (place : ℕ) → read text ≡ Err place → IsBadPlace read text place
 first step finish read beginning same Holds keeps can holds text place is =
     let bad = first_bad step finish Holds keeps can text 0 beginning place holds (same text ∙ is) in
     let count : bad.count ≡ place = omega (arith, bad.is) in

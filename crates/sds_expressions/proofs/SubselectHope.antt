@@ -1,4 +1,4 @@
--- From each state of the reading of a `subselect` router's expression that is reached some way to go on is of the form.
+-- From each state of the reading of a `subselect` router's expression that is reached some way to go on has the form.
 use Rattle.std.proofs.Common.{◌≡◌, ℕ, ◌+◌, ◌⊎◌, inl, inr, Bool, true, false, ◌&&◌, ◌||◌, ◌==◌, if◌then◌else◌, nat_lt, List, [], ◌∷◌, ◌++◌, length, drop, codes, Option, Some, None, Result, Err, refl, sym, ap, subst, ◌∙◌}
 use Rattle.std.proofs.lemmas.Bool.{and_parts}
 use Rattle.std.proofs.lemmas.Bool.Decides.{Decides-eqb}
@@ -7,28 +7,26 @@ use Rattle.std.proofs.Math.Utf8.{scalar}
 use Rattle.std.specs.Char.{to_ascii_lowercase}
 use Rattle.sds_types.specs.declared.subselect.Compared.TheVariants.{Routed, Text}
 use Rattle.sds_types.specs.declared.subselect.Subselect.{Subselect}
-use Rattle.sds_expressions.specs.declared.subselect_read.Reading.{Reading}
-use Rattle.sds_expressions.specs.declared.subselect_read.Slot.{Slot}
-use Rattle.sds_expressions.specs.declared.subselect_read.Slot.TheVariants as slot
-use Rattle.sds_expressions.specs.BadPlaces.{IsFirstBad}
-use Rattle.sds_expressions.specs.ColumnTests.{is_name_character}
-use Rattle.sds_expressions.specs.Subselects as choice
+use Rattle.sds_expressions.specs.declared.subselect_router.Reading.{Reading}
+use Rattle.sds_expressions.specs.declared.subselect_router.Slot.{Slot}
+use Rattle.sds_expressions.specs.declared.subselect_router.Slot.TheVariants as slot
+use Rattle.sds_expressions.proofs.Readings.{IsBadPlace}
+use Rattle.sds_value.specs.Names.{is_name_character}
+use Rattle.sds_expressions.specs.SubselectRouter as choice
+use Rattle.sds_expressions.specs.SubselectForm.{is_spacing}
 use Rattle.sds_expressions.proofs.ColumnHope.{front_is, rest_is}
 use Rattle.sds_expressions.proofs.Readings as readings
 
-abbrev finish : Reading → Option Subselect
-finish reading = choice.choice_at reading.slot reading
-
 abbrev CanEnd : Reading → Type 0
-CanEnd reading = readings.CanEnd choice.step finish reading
+CanEnd reading = readings.CanEnd choice.step choice.finish reading
 
-done : (reading : Reading) (value : Subselect) → finish reading ≡ Some value → CanEnd reading
-done reading value is = readings.done choice.step finish reading value is
+done : (reading : Reading) (value : Subselect) → choice.finish reading ≡ Some value → CanEnd reading
+done reading value is = readings.done choice.step choice.finish reading value is
 
 one_more : (reading next : Reading) (c : ℕ) → choice.step reading c ≡ Some next → scalar c ≡ true → CanEnd next → CanEnd reading
-one_more reading next c is good can = readings.one_more choice.step finish reading next c is good can
+one_more reading next c is good can = readings.one_more choice.step choice.finish reading next c is good can
 
--- at a keyword stands the front of one, and at a sign stands nothing
+-- at a keyword stands a prefix of one, and at a sign stands nothing
 abbrev HoldsAt : Slot → List ℕ → Type 0
 HoldsAt slot.Prefix word = choice.begins_keyword slot.Prefix word ≡ true
 HoldsAt slot.Dot word = word ≡ []
@@ -158,18 +156,18 @@ empty_holds reading empty = subst (HoldsAt reading.slot) (sym empty) (fresh_hold
 
 before_keyword : (reading next : Reading) (c : ℕ) → reading.word ≡ [] → choice.before_keyword reading c ≡ Some next → Holds next
 before_keyword reading next c empty e =
-    branch (choice.is_spacing c) _ _ next (λ _ f. kept (record reading { spaced = true }) next (empty_holds reading empty) f)
+    branch (is_spacing c) _ _ next (λ _ f. kept (record reading { spaced = true }) next (empty_holds reading empty) f)
     (λ f. branch (reading.spaced && choice.begins_keyword reading.slot (to_ascii_lowercase c ∷ [])) _ _ next
     (λ test g. kept (record reading { word = to_ascii_lowercase c ∷ [] }) next (keyword_holds reading.slot (to_ascii_lowercase c ∷ []) (and_parts reading.spaced (choice.begins_keyword reading.slot (to_ascii_lowercase c ∷ [])) test).1) g) (gone next) f) e
 
 before_name : (reading next : Reading) (c : ℕ) → reading.word ≡ [] → choice.takes_name reading.slot ≡ true → choice.before_name reading c ≡ Some next → Holds next
 before_name reading next c empty takes e =
-    branch (choice.is_spacing c) _ _ next (λ _ f. kept (record reading { spaced = true }) next (empty_holds reading empty) f)
+    branch (is_spacing c) _ _ next (λ _ f. kept (record reading { spaced = true }) next (empty_holds reading empty) f)
     (λ f. branch (reading.spaced && is_name_character c) _ _ next (λ _ g. kept (record reading { word = c ∷ [] }) next (name_holds reading.slot (c ∷ []) takes) g) (gone next) f) e
 
 sign : (mark : ℕ) (to : Slot) (reading next : Reading) (c : ℕ) → reading.word ≡ [] → choice.sign mark to reading c ≡ Some next → Holds next
 sign mark to reading next c empty e =
-    branch (choice.is_spacing c) _ _ next (λ _ f. kept reading next (empty_holds reading empty) f)
+    branch (is_spacing c) _ _ next (λ _ f. kept reading next (empty_holds reading empty) f)
     (λ f. branch (c == mark) _ _ next (λ _ g. kept (choice.moved reading to true) next (fresh_holds to) g) (gone next) f) e
 
 fresh_kept : (at : Slot) (reading next : Reading) (c : ℕ) → reading.slot ≡ at → reading.word ≡ [] → choice.fresh_at at reading c ≡ Some next → Holds next
@@ -186,14 +184,14 @@ fresh_kept slot.Where reading next c is empty e = before_keyword reading next c 
 fresh_kept slot.Tested reading next c is empty e = before_name reading next c empty (ap choice.takes_name is) e
 fresh_kept slot.Equals reading next c is empty e = sign 61 slot.Value reading next c empty e
 fresh_kept slot.Value reading next c is empty e =
-    branch (choice.is_spacing c) _ _ next (λ _ f. kept reading next (empty_holds reading empty) f)
+    branch (is_spacing c) _ _ next (λ _ f. kept reading next (empty_holds reading empty) f)
     (λ f. branch (c == 58) _ _ next (λ _ g. kept (choice.moved reading slot.Routed true) next tt g)
     (λ g. branch (c == 39) _ _ next (λ _ h. kept (choice.moved reading slot.Quoted true) next tt h) (gone next) g) f) e
 fresh_kept slot.Routed reading next c is empty e = before_name reading next c empty (ap choice.takes_name is) e
 fresh_kept slot.Quoted reading next c is empty e = before_keyword reading next c empty e
 fresh_kept slot.Quote reading next c is empty e = before_keyword reading next c empty e
 fresh_kept slot.Next reading next c is empty e = branch (c == 41) _ _ next (λ _ f. kept (choice.moved reading slot.Close true) next refl f) (λ f. before_keyword reading next c empty f) e
-fresh_kept slot.Close reading next c is empty e = branch (choice.is_spacing c) _ _ next (λ _ f. kept reading next (empty_holds reading empty) f) (gone next) e
+fresh_kept slot.Close reading next c is empty e = branch (is_spacing c) _ _ next (λ _ f. kept reading next (empty_holds reading empty) f) (gone next) e
 
 outside_kept : (word : List ℕ) (reading next : Reading) (c : ℕ) → reading.word ≡ word → choice.outside word reading c ≡ Some next → Holds next
 outside_kept [] reading next c is e = fresh_kept reading.slot reading next c refl is e
@@ -330,7 +328,7 @@ can_rest at word keyword whole (c ∷ rest) reading w ws is begun e =
     one_more reading next c (keyword.outside reading c is ∙ (ap (λ (x : List ℕ). choice.outside x reading c) begun ∙ (outside ∙ inside))) letter.0
     (can_rest at word keyword whole rest next w (ws ++ c ∷ []) is begun_next longer)
 
-can_begin : (at : Slot) (c : ℕ) (rest : List ℕ) → Keyword at (c ∷ rest) → Whole at (c ∷ rest) → choice.is_spacing c ≡ false
+can_begin : (at : Slot) (c : ℕ) (rest : List ℕ) → Keyword at (c ∷ rest) → Whole at (c ∷ rest) → is_spacing c ≡ false
     → ((reading : Reading) (x : ℕ) → reading.slot ≡ at → reading.word ≡ [] → choice.step reading x ≡ choice.before_keyword reading x)
     → (reading : Reading) → reading.slot ≡ at → reading.word ≡ [] → CanEnd reading
 can_begin at c rest keyword whole letter fresh reading is empty = spaced reading.spaced refl
@@ -438,7 +436,7 @@ keyword_external : Keyword slot.Which (codes "external_id")
 keyword_external = record { outside = λ reading c is. rw is refl; no_name = refl; fronts = λ text rest e. rw (front_is (codes "external_id") text rest e) refl; letters = refl }
 
 keyword_node : Keyword slot.Which (codes "node_id")
-keyword_node = record { outside = λ reading c is. rw is refl; no_name = refl; fronts = λ text rest e. or_true (choice.is_front (codes "external_id") text) (choice.is_front (codes "node_id") text) (front_is (codes "node_id") text rest e); letters = refl }
+keyword_node = record { outside = λ reading c is. rw is refl; no_name = refl; fronts = λ text rest e. or_true (choice.is_prefix (codes "external_id") text) (choice.is_prefix (codes "node_id") text) (front_is (codes "node_id") text rest e); letters = refl }
 
 whole_external : Whole slot.Which (codes "external_id")
 whole_external reading is word = let next = choice.moved (record reading { by = choice.node_column reading.word }) slot.In true in one_more reading next 32 (rw (is, word) refl) refl (can_in_word next refl refl)
@@ -447,9 +445,9 @@ whole_node : Whole slot.Which (codes "node_id")
 whole_node reading is word = let next = choice.moved (record reading { by = choice.node_column reading.word }) slot.In true in one_more reading next 32 (rw (is, word) refl) refl (can_in_word next refl refl)
 
 can_which_word : (reading : Reading) → reading.slot ≡ slot.Which → choice.begins_keyword slot.Which reading.word ≡ true → CanEnd reading
-can_which_word reading is front = at reading.word refl (either (choice.is_front (codes "external_id") reading.word) (choice.is_front (codes "node_id") reading.word) front)
+can_which_word reading is front = at reading.word refl (either (choice.is_prefix (codes "external_id") reading.word) (choice.is_prefix (codes "node_id") reading.word) front)
   where
-    at : (word : List ℕ) → reading.word ≡ word → (choice.is_front (codes "external_id") reading.word ≡ true) ⊎ (choice.is_front (codes "node_id") reading.word ≡ true) → CanEnd reading
+    at : (word : List ℕ) → reading.word ≡ word → (choice.is_prefix (codes "external_id") reading.word ≡ true) ⊎ (choice.is_prefix (codes "node_id") reading.word ≡ true) → CanEnd reading
     at [] e fronts = can_begin slot.Which 101 (drop 1 (codes "external_id")) keyword_external whole_external refl (λ from x at_word nothing. rw (at_word, nothing) refl) reading is e
     at (w ∷ ws) e (inl f) = can_rest slot.Which (codes "external_id") keyword_external whole_external (drop (length reading.word) (codes "external_id")) reading w ws is e (rest_is (codes "external_id") reading.word f)
     at (w ∷ ws) e (inr f) = can_rest slot.Which (codes "node_id") keyword_node whole_node (drop (length reading.word) (codes "node_id")) reading w ws is e (rest_is (codes "node_id") reading.word f)
@@ -493,19 +491,6 @@ can_at slot.Close reading is holds = can_close reading is
 can : (reading : Reading) → Holds reading → CanEnd reading
 can reading holds = can_at reading.slot reading refl holds
 
--- the reading of the definition
-end_same : (place : ℕ) (value : Option Subselect) → readings.ended place value ≡ choice.end_of place value
-end_same place None = refl
-end_same place (Some value) = refl
-
-same : (text : List ℕ) (place : ℕ) (reading : Reading) → readings.run choice.step finish place reading text ≡ choice.choice_from place reading text
-same [] place reading = end_same place (finish reading)
-same (c ∷ cs) place reading = at (choice.step reading c) (λ next. same cs (place + 1) next)
-  where
-    at : (o : Option Reading) → ((next : Reading) → readings.run choice.step finish (place + 1) next cs ≡ choice.choice_from (place + 1) next cs)
-        → ◌≡◌ {A = Result Subselect ℕ} (readings.on place (λ next. readings.run choice.step finish (place + 1) next cs) o) (elim o [ None ↦ Err place | Some next ↦ choice.choice_from (place + 1) next cs ])
-    at None more = refl
-    at (Some next) more = more next
-
-pub subselect_bad : (text : List ℕ) (place : ℕ) → choice.subselect_of text ≡ Err place → IsFirstBad choice.subselect_of text place
-subselect_bad text place is = readings.first choice.step finish choice.subselect_of choice.beginning (λ text. same text 0 choice.beginning) Holds keeps can refl text place is
+-- the first bad place
+pub subselect_bad : (text : List ℕ) (place : ℕ) → choice.subselect_of text ≡ Err place → IsBadPlace choice.subselect_of text place
+subselect_bad text place is = readings.first choice.step choice.finish choice.subselect_of choice.beginning (λ text. refl) Holds keeps can refl text place is

@@ -1,10 +1,23 @@
--- The place at which a text is refused.
+-- What a text reads as by a form: the value that it says, or the place at which it leaves the form.
 use Rattle.std.specs.Prelude.{◌≡◌, ◌≤◌, ◌<◌, ◌+◌, ℕ, true, List, ◌++◌, length, take, Result, Ok, Err}
 use Rattle.std.specs.Str.{all_scalars}
 
--- the place is that of the first character from which no way to go on is of the form that is read: up to it some text that goes
--- on is read, and no text that goes on behind it is. Where the text ends too early it is the text's length.
-pub record IsFirstBad {T : Type 0} (read : List ℕ → Result T ℕ) (text : List ℕ) (place : ℕ) : Type 0 where
+-- A form says of a text and a value whether the text says that value. The text hasn't the form, and
+-- this is the place of the first character from which no continuation has it: what stands before it
+-- goes on to a text of the form, and with the character no text that goes on so is one. Where the
+-- text ends too early the place is its length.
+pub record IsFirstBad {T : Type 0} (IsForm : List ℕ → T → Type 0) (text : List ℕ) (place : ℕ)
+    : Type 0 where
   pub within : place ≤ length text
-  pub hopeful : (more : List ℕ) × (all_scalars more ≡ true) × (value : T) × (read (take place text ++ more) ≡ Ok value)
-  pub hopeless : place < length text → (more : List ℕ) → read (take (place + 1) text ++ more) ≡ Err place
+  pub malformed : (value : T) → IsForm text value → ⊥
+  pub hopeful :
+      (more : List ℕ) × (all_scalars more ≡ true) × (value : T)
+      × IsForm (take place text ++ more) value
+  pub hopeless :
+      place < length text → (more : List ℕ) (value : T)
+      → IsForm (take (place + 1) text ++ more) value → ⊥
+
+-- the value that the text says, or the first bad place
+abbrev pub ReadsAs : {T : Type 0} → (List ℕ → T → Type 0) → List ℕ → Result T ℕ → Type 0
+ReadsAs IsForm text (Ok value) = IsForm text value
+ReadsAs IsForm text (Err place) = IsFirstBad IsForm text place

@@ -13,20 +13,26 @@ abbrev pub left_of : List ℕ → Option ℕ
 left_of text = plain_number 2000 text
 
 -- one number, or two that a comma joins
+abbrev pub two_numbers : Option ℕ → Option ℕ → Option Substring
+two_numbers first end =
+    option_and_then (λ from. option_map (λ to. record { first = from; end = Some to }) end) first
+
 abbrev pub substr_of : List ℕ → Option Substring
 substr_of text = elim (split_at 44 text) [
   | None ↦ option_map (λ from. record { first = from; end = None }) (left_of text)
-  | Some parts ↦ option_and_then (λ from. option_map (λ to. record { first = from; end = Some to }) (left_of parts.1)) (left_of parts.0)
+  | Some parts ↦ two_numbers (left_of parts.0) (left_of parts.1)
 ]
 
 -- a pair is divided at its first `=`
 abbrev pub pair_of : List ℕ → Option MapPair
-pair_of text = option_map (λ parts. record { source = chars parts.0; target = chars parts.1 }) (split_at 61 text)
+pair_of text =
+    option_map (λ pair. record { source = chars pair.0; target = chars pair.1 }) (split_at 61 text)
 
 -- the pairs so far and those of the texts that follow
 abbrev pub pairs_from : List MapPair → List (List ℕ) → Option (List MapPair)
 pairs_from earlier [] = Some earlier
-pairs_from earlier (text ∷ texts) = option_and_then (λ pair. pairs_from (earlier ++ pair ∷ []) texts) (pair_of text)
+pairs_from earlier (text ∷ texts) = option_and_then (λ pair. pairs_from (earlier
+    ++ pair ∷ []) texts) (pair_of text)
 
 -- pairs that single spaces join
 abbrev pub value_map_of : List ℕ → Option (List MapPair)
@@ -39,9 +45,11 @@ variable_of text = if bytes_eq text (codes "source_node_id") then Some SourceNod
 
 -- a number with `-` before it, which isn't 0
 abbrev pub negative_of : List ℕ → Option ℤ
-negative_of digits = option_and_then (λ n. if n == 0 then None else Some (neg_ℤ (pos n))) (plain_number 1000000 digits)
+negative_of digits = option_and_then (λ n. if n == 0 then None
+    else Some (neg_ℤ (pos n))) (plain_number 1000000 digits)
 
 -- a multiplier: 1 where it is empty, else a number from -1,000,000 to 1,000,000
 abbrev pub multiplier_of : List ℕ → Option ℤ
 multiplier_of [] = Some (pos 1)
-multiplier_of (c ∷ cs) = if c == 45 then negative_of cs else option_map (λ n. pos n) (plain_number 1000000 (c ∷ cs))
+multiplier_of (c ∷ cs) = if c == 45 then negative_of cs
+    else option_map (λ n. pos n) (plain_number 1000000 (c ∷ cs))

@@ -1,7 +1,14 @@
 pub mod Numbers
 pub mod Pieces
 pub mod Computed
-pub mod ColumnTests
-pub mod Lookups
-pub mod Subselects
+pub mod Forms
+pub mod ComputedForm
+pub mod ColumnForm
+pub mod LookupForm
+pub mod SubselectForm
+pub mod Printed
 pub mod BadPlaces
+pub mod Automaton
+pub mod ColumnRouter
+pub mod LookupRouter
+pub mod SubselectRouter

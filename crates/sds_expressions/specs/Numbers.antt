@@ -3,7 +3,7 @@ use Rattle.std.specs.Prelude.{ℕ, ◌+◌, ◌-◌, ◌*◌, Bool, false, not, 
 use Rattle.std.specs.List.{list_all}
 use Rattle.std.specs.Char.{is_ascii_digit}
 
--- the number that the digits write behind a number that is read already
+-- the number that the digits write after a number that is read already
 abbrev pub number_from : ℕ → List ℕ → ℕ
 number_from n [] = n
 number_from n (digit ∷ digits) = number_from (n * 10 + (digit - 48)) digits

@@ -1,3 +1,4 @@
+//! The expressions of a transform's columns.
 ghost use Rattle.std.specs.Prelude.{◌≡◌, ◌≤◌, IfOk, option_map};
 ghost use Rattle.sds_expressions.specs.Computed as wanted;
 

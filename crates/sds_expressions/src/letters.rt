@@ -1,7 +1,8 @@
+//! Texts as lists of characters.
 ghost use Rattle.std.specs.Prelude.{◌≡◌, ◌==◌, ◌++◌, ◌∷◌, [], true, IfOk, OnOk, string_bytes};
 ghost use Rattle.std.specs.Str.{all_scalars, chars, encode_utf8_all};
 ghost use Rattle.std.specs.List.{starts_with};
-ghost use Rattle.sds_expressions.specs.ColumnTests as wanted;
+ghost use Rattle.sds_value.specs.Names as names;
 
 use sds_base::{List, NoMemory, Txt};
 use std::alloc::Global;
@@ -25,23 +26,24 @@ pub fn text_of(alloc: Global, characters: &[char]) -> Result<Txt, NoMemory>
 }
 
 fn put(text: &mut String, character: char) -> Result<(), NoMemory>
-    ensures bytes { OnOk result (string_bytes text.new ≡ string_bytes text.old ++ encode_utf8_all (character ∷ [])) }
+    ensures bytes { OnOk result (string_bytes text.new ≡ string_bytes text.old
+        ++ encode_utf8_all (character ∷ [])) }
     ensures scalar { OnOk result (all_scalars (character ∷ []) ≡ true) }
 {
     text.push(character)?;
     Ok(())
 }
 
-/// Whether the text begins with this front.
-pub fn begins(text: &[char], front: &[char]) -> bool
-    ensures { result ≡ starts_with (λ a b. a == b) text.now front.now }
+/// Whether the text begins with this prefix.
+pub fn begins(text: &[char], prefix: &[char]) -> bool
+    ensures { result ≡ starts_with (λ a b. a == b) text.now prefix.now }
 {
-    text.starts_with(front)
+    text.starts_with(prefix)
 }
 
 /// Whether the character may stand in a name.
 pub fn is_name_character(character: char) -> bool
-    ensures { result ≡ wanted.is_name_character character }
+    ensures { result ≡ names.is_name_character character }
 {
     character.is_ascii_alphanumeric() || character == '_' || character == '-'
 }

@@ -1,9 +1,11 @@
+//! Numbers that are written plainly.
 ghost use Rattle.std.specs.Prelude.{◌≡◌, ◌≤◌, true, IfSome};
 ghost use Rattle.std.specs.List.{list_all};
 ghost use Rattle.std.specs.Char.{is_ascii_digit};
 ghost use Rattle.sds_expressions.specs.Numbers as wanted;
 
-/// The number that a text writes plainly, where it is at most this: decimal digits, no sign, no leading zero.
+/// The number that a text writes plainly, where it is at most this: decimal digits, no sign, no
+/// leading zero.
 pub fn plain_number(text: &[u8], most: u32) -> Option<u32>
     requires { most ≤ 100000000 }
     ensures number { result ≡ wanted.plain_number most text.now }

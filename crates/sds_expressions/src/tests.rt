@@ -1,4 +1,4 @@
-// Expressions that read, and the place at which the others leave their form.
+//! Expressions that read, and the place at which the others leave their form.
 use crate::{
     behind, column_tests, left_of, lookup_text, multiplier_of, plain_number, split_at,
     subselect_text, substr_of, value_map_of, variable_of,
@@ -38,6 +38,8 @@ fn column_expressions_and_their_places(rt: HostRuntime) -> Result<(), Fail> {
         ("a=:NODE_IDX", Some(10)),
         ("a='x", Some(4)),
         ("a=1 OR b=2", Some(4)),
+        ("a==1", Some(2)),
+        ("a = != 1", Some(4)),
         ("ä=1", Some(0)),
         ("a='ä' ~", Some(6)),
         ("aaaaaaaaaabbbbbbbbbbccccccccccddddddddddeeeeeeeeee=1", None),
@@ -59,6 +61,29 @@ fn column_expressions_and_their_places(rt: HostRuntime) -> Result<(), Fail> {
 #[test]
 fn column_tests_say_what_is_compared(rt: HostRuntime) -> Result<(), Fail> {
     let alloc = rt.alloc();
+    for (text, differs, operand) in [
+        ("a=:NODE_ID", false, Operand::NodeId),
+        ("a!=:EXTERNAL_ID", true, Operand::ExternalId),
+        ("a = :NODE_GROUP_ID", false, Operand::NodeGroupId),
+        ("a != NULL", true, Operand::Null),
+        (
+            "a='NULL'",
+            false,
+            Operand::Text(Txt::copied(alloc, "NULL")?),
+        ),
+        (
+            "a=1.5-x_",
+            false,
+            Operand::Text(Txt::copied(alloc, "1.5-x_")?),
+        ),
+    ] {
+        let tests = column_tests(alloc, text)?.map_err(|_| Fail::from("no tests"))?;
+        let test = &tests.inner().as_slice()[0];
+        assert!(rt;
+            test.differs == differs && test.operand.same(&operand),
+            "{text}"
+        );
+    }
     let tests = match column_tests(alloc, "OLD_a != 'it''s' or b = NULL")? {
         Ok(tests) => tests,
         Err(_) => return Err(Fail::from("no tests")),

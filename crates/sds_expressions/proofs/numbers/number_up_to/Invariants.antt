@@ -4,7 +4,7 @@ use Rattle.std.specs.Char.{is_ascii_digit}
 use Rattle.sds_expressions.specs.Numbers as wanted
 use Rattle.sds_expressions.proofs.numbers.number_up_to.Given as goal
 
--- the digits that are left are read behind the number so far, which isn't too great
+-- the digits that are left are read after the number so far, which isn't too great
 abbrev pub invariant-loop-digit : goal.invariant-loop-digit
 invariant-loop-digit l = record {
   so_far : wanted.number_from l.number (drop l.digit-index l.digits) ≡ wanted.number_from 0 l.digits;

@@ -2,4 +2,4 @@ use Rattle.sds_expressions.proofs.Fronts.{behind_is}
 use Rattle.sds_expressions.proofs.pieces.behind.Goals as goal
 
 pub returns : goal.returns
-returns c = behind_is c.args.front.now c.args.text.now c.strip_prefix.result c.strip_prefix.ensures.cases
+returns c = behind_is c.args.prefix.now c.args.text.now c.strip_prefix.result c.strip_prefix.ensures.cases

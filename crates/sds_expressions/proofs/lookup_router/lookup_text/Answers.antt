@@ -1,0 +1,6 @@
+use Rattle.std.proofs.Common.{◌∙◌, chars}
+use Rattle.sds_expressions.proofs.Saying.{returned, lookup_form}
+use Rattle.sds_expressions.proofs.lookup_router.lookup_text.Goals as goal
+
+pub returns-clause-form : goal.returns-clause-form
+returns-clause-form c = returned _ _ c.read_text.result (λ read. lookup_form (chars c.args.text.now) c.as_slice.result.now c.beginning.result read c.beginning.ensures (c.as_slice.ensures.value ∙ c.in_ok-characters.ensures)) c.read_text.ensures
