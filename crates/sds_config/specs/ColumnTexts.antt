@@ -8,13 +8,13 @@ use Rattle.sds_expressions.specs.Numbers.{plain_number}
 use Rattle.sds_expressions.specs.Pieces.{behind, split_at}
 use Rattle.sds_config.specs.declared.columns.ColumnText.{ColumnText}
 
--- the size of a kind, which is at least this and at most that, and what stands behind its closing parenthesis
+-- the size of a kind, which is at least this and at most that, and what follows its closing parenthesis
 abbrev pub size_in_front : ℕ → ℕ → List ℕ → Option (ℕ × List ℕ)
 size_in_front least most text = option_and_then
     (λ (parts : List ℕ × List ℕ). option_and_then (λ size. if nat_le least size then Some (size, parts.1) else None) (plain_number most parts.0))
     (split_at 41 text)
 
--- the three kinds with a size, behind their opening parenthesis
+-- the three kinds with a size, after their opening parenthesis
 abbrev pub decimal_in_front : List ℕ → Option (Kind × List ℕ)
 decimal_in_front text = option_map (λ (p : ℕ × List ℕ). (Decimal p.0, p.1)) (size_in_front 0 9 text)
 
@@ -24,7 +24,7 @@ varchar_in_front text = option_map (λ (p : ℕ × List ℕ). (Varchar p.0, p.1)
 abbrev pub varbinary_in_front : List ℕ → Option (Kind × List ℕ)
 varbinary_in_front text = option_map (λ (p : ℕ × List ℕ). (Varbinary p.0, p.1)) (size_in_front 1 4000 text)
 
--- the kind that a text begins with, and what stands behind it
+-- the kind that a text begins with, and what follows it
 abbrev pub kind_in_front : List ℕ → Option (Kind × List ℕ)
 kind_in_front text =
     elim (behind (codes "INTEGER") text) [
@@ -49,7 +49,7 @@ kind_in_front text =
           ]
     ]
 
--- whether a mark stands in front, and what stands behind it
+-- whether a mark comes first, and what follows it
 abbrev pub mark_in_front : List ℕ → List ℕ → Bool × List ℕ
 mark_in_front mark text = elim (behind mark text) [ Some rest ↦ (true, rest) | None ↦ (false, text) ]
 
@@ -58,7 +58,7 @@ abbrev pub reference_of : List ℕ → Option (Option (List ℕ))
 reference_of [] = Some None
 reference_of (c ∷ cs) = option_map (λ name. Some (chars name)) (behind (codes " REF ") (c ∷ cs))
 
--- the marks behind the kind
+-- the marks after the kind
 abbrev pub marked : List ℕ → Kind → List ℕ → Option ColumnText
 marked name kind text =
     let null = mark_in_front (codes " NOT NULL") text in

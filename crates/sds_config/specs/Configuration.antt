@@ -66,7 +66,7 @@ up_to_tables file =
     and_then (with_channels file config) (λ config.
     with_tables file config)))
 
--- and those behind them
+-- and those after them
 abbrev pub up_to_pairs : Members → Result Config ConfigRefusal
 up_to_pairs file =
     and_then (up_to_tables file) (λ config.

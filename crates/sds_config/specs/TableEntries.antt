@@ -89,7 +89,7 @@ refers_well earlier id columns column = elim column.reference [
 abbrev pub are_sound : List TableDef → List ℕ → List ColumnText → Bool
 are_sound earlier id columns = has_key columns && (nat_le (widths columns) 16000 && (are_distinct columns && list_all (refers_well earlier id columns) columns))
 
--- the place of the table that a sound column refers to: an earlier table, or the table itself, which stands behind them
+-- the place of the table that a sound column refers to: an earlier table, or the table itself, which comes after them
 abbrev pub parent_place : List TableDef → List ℕ → ℕ
 parent_place earlier name = unwrap_or (place_of (λ table. table.name) earlier name) (length earlier)
 

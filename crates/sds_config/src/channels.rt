@@ -1,3 +1,4 @@
+//! The section `channel`.
 use crate::fields::{id_at, number_at, only_keys, word_at};
 use crate::sections::Entry;
 use crate::{ChannelDef, Config, ConfigRefusal};

@@ -1,3 +1,4 @@
+//! The texts of a table's columns.
 ghost use Rattle.std.specs.Prelude.{◌≡◌, [], IfOk, IfSome, ◌≤◌, option_map, map};
 ghost use Rattle.sds_config.specs.ColumnTexts as wanted;
 
@@ -86,7 +87,7 @@ fn mark_in_front<'a>(text: &'a str, mark: &str) -> (bool, &'a str)
     }
 }
 
-/// The kind that a text begins with, and what stands behind it.
+/// The kind that a text begins with, and what follows it.
 fn kind_in_front(text: &str) -> Option<(Kind, &str)>
     ensures { option_map (λ p. (p.0, p.1.now)) result ≡ wanted.kind_in_front text.now }
 {
@@ -135,7 +136,7 @@ fn varbinary_in_front(text: &str) -> Option<(Kind, &str)>
     }
 }
 
-/// The size of a kind, and what stands behind its closing parenthesis.
+/// The size of a kind, and what follows its closing parenthesis.
 fn size_in_front(text: &str, least: u32, most: u32) -> Option<(u32, &str)>
     requires { most ≤ 4000 }
     ensures size { option_map (λ p. (p.0, p.1.now)) result ≡ wanted.size_in_front least most text.now }

@@ -1,3 +1,4 @@
+//! The expressions of a transform's columns, read once the transform is known as a whole.
 ghost use Rattle.std.specs.Prelude.{◌≡◌, IfOk};
 ghost use Rattle.sds_config.specs.ComputedColumns as wanted;
 

@@ -1,3 +1,4 @@
+//! The two groups that an entry stands between.
 ghost use Rattle.std.specs.Prelude.{◌≤◌, length};
 ghost use Rattle.toml.specs.View.{table_view};
 ghost use Rattle.sds_config.specs.Ends as wanted;

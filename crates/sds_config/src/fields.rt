@@ -1,3 +1,4 @@
+//! The fields of an entry: where each is found, what it may hold, and how it is refused.
 ghost use Rattle.std.specs.Prelude.{◌≡◌, ◌≤◌, [], IfOk, option_map, string_bytes, length, map};
 ghost use Rattle.std.specs.Str.{chars};
 ghost use Rattle.toml.specs.Data.{get_member};

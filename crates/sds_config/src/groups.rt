@@ -1,3 +1,4 @@
+//! The section `group`.
 use crate::fields::{id_at, only_keys};
 use crate::sections::Entry;
 use crate::{Config, ConfigRefusal};

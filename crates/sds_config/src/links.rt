@@ -1,3 +1,4 @@
+//! The section `link`.
 ghost use Rattle.std.specs.Prelude.{◌≡◌};
 ghost use Rattle.sds_config.specs.Links as wanted;
 

@@ -1,3 +1,4 @@
+//! Entries that others name, and the place of a name.
 ghost use Rattle.std.specs.Prelude.{◌≡◌, ◌<◌, IfSome, length};
 ghost use Rattle.std.specs.Str.{chars};
 ghost use Rattle.sds_config.specs.Fields as wanted;

@@ -1,3 +1,4 @@
+//! The section `trigger_router`.
 ghost use Rattle.std.specs.Prelude.{◌≡◌};
 ghost use Rattle.sds_config.specs.Refusals.{Answers};
 ghost use Rattle.sds_config.specs.TriggerRouters as wanted;

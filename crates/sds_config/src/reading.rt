@@ -1,3 +1,4 @@
+//! The reading of a whole file, section after section.
 ghost use Rattle.std.specs.Prelude.{◌≡◌, ◌≢◌, ◌≤◌, ◌^◌, IfOk, IfErr, OnOk, length};
 ghost use Rattle.toml.specs.View.{table_view};
 ghost use Rattle.sds_config.specs.Configuration as wanted;

@@ -1,3 +1,4 @@
+//! The section `router`.
 ghost use Rattle.std.specs.Prelude.{◌≡◌, IfOk, option_copied};
 ghost use Rattle.std.specs.List.{list_all};
 ghost use Rattle.sds_types.specs.declared.config_refusal.ConfigRefusal.TheVariants.{BadExpression};

@@ -1,3 +1,4 @@
+//! The rules on a transform's columns.
 ghost use Rattle.std.specs.Prelude.{◌≡◌, ◌==◌, nat_le, length, count_by};
 ghost use Rattle.std.specs.List.{list_any, list_all};
 ghost use Rattle.std.specs.Str.{chars};

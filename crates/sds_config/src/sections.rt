@@ -1,3 +1,4 @@
+//! A section: an array of entries, read in their order.
 ghost use Rattle.std.specs.Prelude.{◌≡◌, ◌≤◌, [], IfOk, MatchResult, length, vec_len};
 ghost use Rattle.toml.specs.View.{table_view, items_view, view};
 ghost use Rattle.sds_config.specs.Refusals.{Answers, Refuses};

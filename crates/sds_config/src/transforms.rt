@@ -1,3 +1,4 @@
+//! The section `transform`.
 ghost use Rattle.std.specs.Prelude.{◌≡◌, option_copied};
 ghost use Rattle.toml.specs.View.{table_view};
 ghost use Rattle.sds_config.specs.Limits.{IsWithinLimits};

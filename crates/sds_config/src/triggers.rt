@@ -1,3 +1,4 @@
+//! The section `trigger`.
 ghost use Rattle.std.specs.Prelude.{◌≡◌};
 ghost use Rattle.toml.specs.View.{table_view};
 ghost use Rattle.sds_config.specs.Refusals.{Answers};

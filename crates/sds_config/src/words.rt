@@ -1,3 +1,4 @@
+//! Settings that the file writes as one of some words.
 ghost use Rattle.std.specs.Prelude.{◌≡◌};
 
 use crate::{

@@ -19,7 +19,7 @@ transform = [{id="move", source_group="corp", target_group="store", point="LOAD"
 conflict = [{source_group="corp", target_group="store", target_table="item", detect_type="USE_VERSION", detect_expression="qty", resolve_type="NEWER_WINS", resolve_row_only=true}]
 "#;
 
-/// What a file is answered: `ok`, or the refusal's number and path, and behind them the place of a bad expression.
+/// What a file is answered: `ok`, or the refusal's number and path, and then the place of a bad expression.
 pub fn answer(alloc: Global, file: &[u8]) -> Result<String, NoMemory> {
     match Config::read(alloc, file) {
         Ok(_) => Ok(String::from_str(alloc, "ok")?),
@@ -55,7 +55,7 @@ pub fn parted<'a>(
     }
 }
 
-/// The file with one text in place of another, where the other stands first behind the section's name.
+/// The file with one text in place of another, where the other stands first after the section's name.
 pub fn changed(
     alloc: Global,
     rt: &impl Abort,
@@ -176,7 +176,7 @@ fn the_file_and_its_top_are_judged(rt: HostRuntime) -> Result<(), Fail> {
     Ok(())
 }
 
-/// The file with a comment behind it that makes it so long.
+/// The file with a comment after it that makes it so long.
 fn padded(alloc: Global, file: &str, length: usize) -> Result<Vec<u8>, NoMemory> {
     let mut long = Vec::new(alloc);
     long.extend_from_slice(file.as_bytes())?;

@@ -101,7 +101,7 @@ id VARCHAR(20) NOT NULL | 8 table[6]
 ID INTEGER | ok
 "#;
 
-/// A table `here` with a key and one more column, behind tables with keys of each kind and one with two keys.
+/// A table `here` with a key and one more column, after tables with keys of each kind and one with two keys.
 const BESIDE: &str = r#"version = 1
 table = [
  {id="item", columns=["id INTEGER KEY", "name VARCHAR(20)"]},

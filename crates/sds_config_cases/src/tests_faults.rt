@@ -1,4 +1,4 @@
-// Two faults in one section: fields before the entry as a whole, entries before those behind them, and the rules on an entry
+// Two faults in one section: fields before the entry as a whole, entries before those after them, and the rules on an entry
 // as a whole in their order.
 use crate::tests::{FULL, expect};
 use std::test::Fail;

@@ -82,7 +82,7 @@ fn filled(alloc: Global, template: &str, mark: &str, number: u32) -> Result<Stri
     Ok(text)
 }
 
-/// So many entries, with commas behind each.
+/// So many entries, with commas after each.
 fn entries(alloc: Global, template: &str, count: u32, by: u32) -> Result<String, NoMemory> {
     let mut text = String::new(alloc);
     for number in 0..count {
@@ -151,7 +151,7 @@ fn too_many_entries_are_not_looked_at(rt: HostRuntime) -> Result<(), Fail> {
 }
 
 /// Lists within an entry: the section, the text that the list stands in place of, what stands before it, an item, what stands
-/// behind it, how many items there are, and the answer.
+/// after it, how many items there are, and the answer.
 const LISTS: &[(&str, &str, &str, &str, &str, u32, &str)] = &[
     // The columns of a table.
     (

@@ -192,7 +192,7 @@ fn first_needed<'a>(fields: &'a [(&'a str, &'a str, bool)], from: usize) -> Opti
     None
 }
 
-/// Every field's fault comes before those of the fields behind it, whatever their order in the file. In the file, whose last
+/// Every field's fault comes before those of the fields after it, whatever their order in the file. In the file, whose last
 /// section this is, `front` and `back` stand round the entry, and `at` is its path.
 fn expect_fields_in_order(
     rt: &impl Abort,
@@ -256,7 +256,7 @@ fn fields_of_a_transforms_columns_are_judged_in_their_order(rt: HostRuntime) -> 
     Ok(())
 }
 
-/// A file whose sections before this place are good, that has this list in the section there, and no arrays in those behind it.
+/// A file whose sections before this place are good, that has this list in the section there, and no arrays in those after it.
 /// The last section stands first in the file.
 fn with_list(alloc: Global, at: usize, list: &str) -> Result<String, NoMemory> {
     let mut file = String::from_str(alloc, "version = 1\n")?;

@@ -96,14 +96,14 @@ pub(crate) fn told(alloc: Global, status: &Status) -> Result<String, NoMemory> {
     })
 }
 
-/// The bytes of two texts, one behind the other.
+/// The bytes of two texts, one after the other.
 fn joined(alloc: Global, front: &str, back: &[u8]) -> Result<Vec<u8>, NoMemory> {
     let mut text = front.as_bytes().to_vec(alloc)?;
     text.extend_from_slice(back)?;
     Ok(text)
 }
 
-/// How a rehearsal ends of the four lines with which a scenario begins, and these behind them.
+/// How a rehearsal ends of the four lines with which a scenario begins, and these after them.
 fn ended(alloc: Global, lines: &[u8]) -> Result<Status, NoMemory> {
     let text = joined(alloc, BEGIN, lines)?;
     Ok(called(alloc, "rehearse", text, List::new(alloc), 1000)?.status)
@@ -188,7 +188,7 @@ fn a_writing_that_fails_leaves_a_front_of_the_screen(rt: HostRuntime) -> Result<
     Ok(())
 }
 
-/// Lines behind the four with which a scenario begins, and the first that may not stand, with its cause.
+/// Lines after the four with which a scenario begins, and the first that may not stand, with its cause.
 const BAD_LINES: &[(&[u8], u64, u8)] = &[
     (b"write,corp,office,1\ninsert,item,1,Pen\n", 6, 6),
     (b"write,corp,office,2\n", 5, 6),
