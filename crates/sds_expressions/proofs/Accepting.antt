@@ -1,6 +1,5 @@
 -- The value that a reading gives of a text, without the places, and texts that are put together from pieces.
-use Rattle.std.proofs.Common.{◌≡◌, ℕ, ◌+◌, ◌≤◌, Bool, true, false, ◌&&◌, if◌then◌else◌, List, [], ◌∷◌, ◌++◌, length, Option, Some, None, option_and_then, Result, Ok, Err, refl, sym, ap, ◌∙◌, arith, append_assoc, length-append}
-use Rattle.std.specs.List.{list_all}
+use Rattle.std.proofs.Common.{◌≡◌, ℕ, ◌+◌, ◌≤◌, Bool, true, false, if◌then◌else◌, List, [], ◌∷◌, ◌++◌, length, Option, Some, None, option_and_then, Ok, refl, sym, ap, ◌∙◌, arith, append_assoc, length-append}
 use Rattle.sds_expressions.specs.Forms.{Form, ◌▸◌, AnyOf}
 use Rattle.sds_expressions.specs.Automaton as automaton
 

@@ -1,5 +1,5 @@
 -- A reading that gives what a form says gives the first bad place of the form, and nothing else is one.
-use Rattle.std.proofs.Common.{◌≡◌, ◌↔◌, ℕ, ◌+◌, ◌<◌, ◌≤◌, ◌⊎◌, inl, inr, true, List, [], ◌∷◌, ◌++◌, length, take, drop, Result, Ok, Err, refl, sym, ap, subst, ◌∙◌, arith, append_assoc, take-append-drop, take-take}
+use Rattle.std.proofs.Common.{◌≡◌, ◌↔◌, ℕ, ◌+◌, ◌<◌, ◌≤◌, ◌⊎◌, inl, inr, List, ◌++◌, take, drop, Result, Ok, Err, refl, sym, ap, subst, ◌∙◌, arith, append_assoc, take-append-drop, take-take}
 use Rattle.std.proofs.lemmas.Bool.{cases_order}
 use Rattle.sds_expressions.specs.BadPlaces.{IsFirstBad, ReadsAs}
 use Rattle.sds_expressions.proofs.Readings.{IsBadPlace}

@@ -1,20 +1,19 @@
 -- What the reading of a `column` router's expression accepts has its form.
-use Rattle.std.proofs.Common.{◌≡◌, ◌≢◌, ℕ, zero, suc, ◌+◌, ◌≤◌, ◌⊎◌, inl, inr, Bool, true, false, ◌&&◌, ◌==◌, if◌then◌else◌, nat_le, List, [], ◌∷◌, ◌++◌, length, drop, codes, Option, Some, None, option_and_then, bytes_eq, refl, sym, ap, subst, ◌∙◌, arith, append_assoc, append-nil, eqb-true, length-append}
-use Rattle.std.proofs.lemmas.Bool.{and_parts}
+use Rattle.std.proofs.Common.{◌≡◌, ℕ, zero, suc, ◌+◌, ◌≤◌, ◌⊎◌, inl, inr, Bool, true, false, ◌==◌, if◌then◌else◌, nat_le, List, [], ◌∷◌, ◌++◌, length, drop, codes, Option, Some, None, option_and_then, bytes_eq, refl, sym, ap, subst, ◌∙◌, arith, append_assoc, append-nil, eqb-true, length-append}
 use Rattle.std.proofs.lemmas.Bool.Decides.{nat_tests}
 use Rattle.std.proofs.lemmas.Slice.Eq.{bytes_eq-Decides}
 use Rattle.std.specs.List.{list_all}
 use Rattle.sds_types.specs.declared.column_test.ColumnTest.{ColumnTest}
 use Rattle.sds_types.specs.declared.column_test.Operand.{Operand}
-use Rattle.sds_types.specs.declared.column_test.Operand.TheVariants.{NodeId, ExternalId, NodeGroupId, Null, Text}
+use Rattle.sds_types.specs.declared.column_test.Operand.TheVariants.{NodeId, ExternalId, NodeGroupId, Text}
 use Rattle.sds_value.specs.Names.{is_name_text, is_name_character}
 use Rattle.sds_expressions.specs.declared.column_router.Part.{Part}
 use Rattle.sds_expressions.specs.declared.column_router.Part.TheVariants as part
 use Rattle.sds_expressions.specs.declared.column_router.Reading.{Reading}
 use Rattle.sds_expressions.specs.ColumnRouter as column
-use Rattle.sds_expressions.specs.Forms.{Form, ◌▸◌, Exactly, AnyOf}
+use Rattle.sds_expressions.specs.Forms.{Form, ◌▸◌, AnyOf}
 use Rattle.sds_expressions.specs.ColumnForm.{is_space, begins_old, is_bare_character, NameOf, SignOf, is_bare, doubled, quoted, ValueOf, TestOf, IsJoint, TestsOf, IsEnd, IsColumnForm}
-use Rattle.sds_expressions.proofs.Accepting.{value_of, branch, in_front, grouped, rest_le}
+use Rattle.sds_expressions.proofs.Accepting.{value_of, branch, in_front, grouped}
 use Rattle.sds_expressions.proofs.ColumnHope.{old_name}
 
 abbrev pub accept : Reading → List ℕ → Option (List ColumnTest)

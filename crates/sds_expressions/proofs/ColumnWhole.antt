@@ -1,5 +1,5 @@
 -- What has the form of a `column` router's expression is accepted.
-use Rattle.std.proofs.Common.{◌≡◌, ◌≢◌, ℕ, ◌+◌, ◌≤◌, ◌⊎◌, inl, inr, Bool, true, false, ◌&&◌, ◌==◌, if◌then◌else◌, nat_le, List, [], ◌∷◌, ◌++◌, length, drop, codes, Option, Some, None, option_and_then, bytes_eq, refl, sym, ap, subst, ◌∙◌, arith, append_assoc, append-nil, eqb-true, length-append}
+use Rattle.std.proofs.Common.{◌≡◌, ◌≢◌, ℕ, ◌+◌, ◌⊎◌, inl, inr, Bool, true, false, ◌==◌, if◌then◌else◌, nat_le, List, [], ◌∷◌, ◌++◌, length, drop, codes, Option, Some, bytes_eq, refl, sym, ap, subst, ◌∙◌, arith, append_assoc, append-nil, eqb-true, length-append}
 use Rattle.std.proofs.lemmas.Bool.{and_parts}
 use Rattle.std.proofs.lemmas.Bool.Decides.{nat_tests}
 use Rattle.std.proofs.lemmas.Slice.Eq.{bytes_eq-Decides}
@@ -7,14 +7,13 @@ use Rattle.std.specs.List.{list_all}
 use Rattle.sds_types.specs.declared.column_test.ColumnTest.{ColumnTest}
 use Rattle.sds_types.specs.declared.column_test.Operand.{Operand}
 use Rattle.sds_types.specs.declared.column_test.Operand.TheVariants.{NodeId, ExternalId, NodeGroupId, Null, Text}
-use Rattle.sds_value.specs.Names.{is_name_text, is_name_character}
-use Rattle.sds_expressions.specs.declared.column_router.Part.{Part}
+use Rattle.sds_value.specs.Names.{is_name_character}
 use Rattle.sds_expressions.specs.declared.column_router.Part.TheVariants as part
 use Rattle.sds_expressions.specs.declared.column_router.Reading.{Reading}
 use Rattle.sds_expressions.specs.ColumnRouter as column
-use Rattle.sds_expressions.specs.Forms.{Form, ◌▸◌, Exactly, AnyOf}
+use Rattle.sds_expressions.specs.Forms.{AnyOf}
 use Rattle.sds_expressions.specs.ColumnForm.{is_space, begins_old, is_bare_character, NameOf, SignOf, is_bare, doubled, quoted, ValueOf, TestOf, IsJoint, TestsOf, IsEnd, IsColumnForm}
-use Rattle.sds_expressions.proofs.ColumnSound.{accept, on, before, in_name, named, signed, with_text, tested, after}
+use Rattle.sds_expressions.proofs.ColumnSound.{accept, before, in_name, named, signed, with_text, tested, after}
 
 -- spaces change nothing before a name, a sign and a value
 over_name : (r : Reading) (a rest : List ℕ) → AnyOf is_space a → accept (before r) (a ++ rest) ≡ accept (before r) rest

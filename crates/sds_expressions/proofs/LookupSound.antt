@@ -1,5 +1,5 @@
 -- What the reading of a `lookuptable` router's expression accepts has its form.
-use Rattle.std.proofs.Common.{◌≡◌, ℕ, zero, suc, ◌+◌, ◌≤◌, ◌⊎◌, inl, inr, Bool, true, false, not, ◌&&◌, ◌==◌, if◌then◌else◌, nat_lt, nat_le, List, [], ◌∷◌, ◌++◌, length, Option, Some, None, is_some, option_and_then, bytes_eq, refl, sym, ap, subst, ◌∙◌, arith, append_assoc, append-nil, eqb-true, length-append}
+use Rattle.std.proofs.Common.{◌≡◌, ℕ, zero, suc, ◌+◌, ◌≤◌, ◌⊎◌, inl, inr, Bool, true, false, ◌&&◌, ◌==◌, if◌then◌else◌, nat_lt, nat_le, List, [], ◌∷◌, ◌++◌, length, Option, Some, None, option_and_then, bytes_eq, refl, sym, ap, subst, ◌∙◌, arith, append_assoc, append-nil, eqb-true, length-append}
 use Rattle.std.proofs.lemmas.Bool.{and_parts}
 use Rattle.std.proofs.lemmas.Bool.Decides.{nat_tests}
 use Rattle.std.proofs.lemmas.Slice.Eq.{bytes_eq-Decides}
@@ -8,12 +8,11 @@ use Rattle.sds_types.specs.declared.lookup.Lookup.{Lookup}
 use Rattle.sds_value.specs.Names.{is_name_text, is_name_character}
 use Rattle.sds_expressions.specs.declared.lookup_router.LookupKey.{LookupKey}
 use Rattle.sds_expressions.specs.declared.lookup_router.LookupKey.TheVariants.{Table, Column, LookupColumn, ExternalId}
-use Rattle.sds_expressions.specs.declared.lookup_router.Part.{Part}
 use Rattle.sds_expressions.specs.declared.lookup_router.Part.TheVariants as part
 use Rattle.sds_expressions.specs.declared.lookup_router.Reading.{Reading}
 use Rattle.sds_expressions.specs.LookupRouter as lookup
-use Rattle.sds_expressions.specs.LookupForm.{key_text, name_for, is_same_key, count_of, IsOrder, lines_of, HasNames, IsLookupForm}
-use Rattle.sds_expressions.proofs.Accepting.{value_of, branch, rest_le}
+use Rattle.sds_expressions.specs.LookupForm.{key_text, name_for, is_same_key, count_of, lines_of, IsLookupForm}
+use Rattle.sds_expressions.proofs.Accepting.{value_of, branch}
 
 abbrev pub accept : Reading → List ℕ → Option Lookup
 accept reading text = value_of lookup.step lookup.finish reading text

@@ -1,5 +1,5 @@
 -- What has the form of a `lookuptable` router's expression is accepted.
-use Rattle.std.proofs.Common.{◌≡◌, ℕ, ◌+◌, ◌≤◌, ◌⊎◌, inl, inr, Bool, true, false, ◌&&◌, ◌==◌, if◌then◌else◌, nat_lt, nat_le, List, [], ◌∷◌, ◌++◌, length, Option, Some, None, option_and_then, refl, sym, ap, subst, ◌∙◌, arith, append_assoc, append-nil, length-append}
+use Rattle.std.proofs.Common.{◌≡◌, ℕ, ◌+◌, ◌⊎◌, inl, inr, Bool, true, false, nat_lt, nat_le, List, [], ◌∷◌, ◌++◌, length, Option, Some, None, refl, sym, ap, ◌∙◌, arith, append_assoc, append-nil, length-append}
 use Rattle.std.proofs.lemmas.Bool.{and_parts}
 use Rattle.std.proofs.lemmas.Bool.Decides.{nat_tests}
 use Rattle.std.specs.List.{list_all}
@@ -7,12 +7,11 @@ use Rattle.sds_types.specs.declared.lookup.Lookup.{Lookup}
 use Rattle.sds_value.specs.Names.{is_name_text, is_name_character}
 use Rattle.sds_expressions.specs.declared.lookup_router.LookupKey.{LookupKey}
 use Rattle.sds_expressions.specs.declared.lookup_router.LookupKey.TheVariants.{Table, Column, LookupColumn, ExternalId}
-use Rattle.sds_expressions.specs.declared.lookup_router.Part.TheVariants as part
 use Rattle.sds_expressions.specs.declared.lookup_router.Reading.{Reading}
 use Rattle.sds_expressions.specs.LookupRouter as lookup
 use Rattle.sds_expressions.specs.LookupForm.{key_text, name_for, is_same_key, count_of, IsOrder, lines_of, HasNames, IsLookupForm}
 use Rattle.sds_expressions.proofs.LookupHope.{whole_key, not_whole, begins_key, key_head}
-use Rattle.sds_expressions.proofs.LookupSound.{accept, on, in_key, in_name, line, after, same_key, own_key, line_open, line_found, key_open, Fits, waits}
+use Rattle.sds_expressions.proofs.LookupSound.{accept, in_key, in_name, line, after, same_key, own_key, line_open, line_found, key_open, Fits, waits}
 
 -- a key
 over_key : (r : Reading) (key : LookupKey) (w : List ℕ) (c : ℕ) (cs rest : List ℕ) → lookup.is_open r key ≡ true → key_text key ≡ w ++ c ∷ cs → accept (in_key r w) ((c ∷ cs) ++ rest) ≡ accept (in_name r key []) rest

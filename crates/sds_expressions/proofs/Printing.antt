@@ -1,5 +1,5 @@
 -- What is printed of an expression has its form, and what has a form has names.
-use Rattle.std.proofs.Common.{◌≡◌, ℕ, ◌⊎◌, inl, inr, Bool, true, false, List, [], ◌∷◌, ◌++◌, map, codes, All, refl, sym, ap, subst, ◌∙◌, append-nil, arith}
+use Rattle.std.proofs.Common.{◌≡◌, ℕ, inl, inr, Bool, true, false, List, [], ◌∷◌, codes, All, refl, sym, subst, ◌∙◌, append-nil, arith}
 use Rattle.std.proofs.lemmas.List.Elements.{All-head, All-tail, All-cons}
 use Rattle.sds_types.specs.declared.column_test.ColumnTest.{ColumnTest}
 use Rattle.sds_types.specs.declared.column_test.Operand.{Operand}
@@ -12,13 +12,11 @@ use Rattle.sds_types.specs.declared.subselect.NodeColumn.{NodeColumn}
 use Rattle.sds_types.specs.declared.subselect.NodeColumn.TheVariants as node
 use Rattle.sds_types.specs.declared.subselect.Subselect.{Subselect}
 use Rattle.sds_value.specs.Names.{is_name_text}
-use Rattle.sds_expressions.specs.declared.lookup_router.LookupKey.{LookupKey}
 use Rattle.sds_expressions.specs.declared.lookup_router.LookupKey.TheVariants.{Table, Column, LookupColumn, ExternalId}
-use Rattle.sds_expressions.specs.Forms.{Form, ◌▸◌, Exactly, AnyOf, Name}
 use Rattle.sds_expressions.specs.ColumnForm.{begins_old, quoted, NameOf, SignOf, TestOf, TestsOf, IsColumnForm}
 use Rattle.sds_expressions.specs.ColumnForm as column
 use Rattle.sds_expressions.specs.LookupForm.{HasNames, IsOrder, IsLookupForm}
-use Rattle.sds_expressions.specs.SubselectForm.{Spacing, Gap, Keyword, keyword_of, ValueOf, ConditionOf, SpacingAfter, ConditionsOf, IsSubselectForm}
+use Rattle.sds_expressions.specs.SubselectForm.{Keyword, keyword_of, ValueOf, ConditionOf, SpacingAfter, ConditionsOf, IsSubselectForm}
 use Rattle.sds_expressions.proofs.Accepting.{joined}
 use Rattle.sds_expressions.specs.Printed.{IsTest, text_of_name, text_of_sign, text_of_operand, text_of_test, text_of_tests, text_of_lookup, IsCompared, IsCondition, IsChoice, text_of_compared, text_of_condition, text_of_conditions, text_of_choice}
 

@@ -1,6 +1,5 @@
 -- What the reading of a `subselect` router's expression accepts has its form.
-use Rattle.std.proofs.Common.{◌≡◌, ℕ, zero, suc, ◌+◌, ◌≤◌, ◌⊎◌, inl, inr, Bool, true, false, ◌&&◌, ◌||◌, ◌==◌, if◌then◌else◌, nat_lt, nat_le, List, [], ◌∷◌, ◌++◌, length, map, codes, Option, Some, None, option_and_then, bytes_eq, refl, sym, ap, subst, ◌∙◌, arith, append_assoc, append-nil, eqb-true, length-append}
-use Rattle.std.proofs.lemmas.Bool.{and_parts}
+use Rattle.std.proofs.Common.{◌≡◌, ℕ, zero, suc, ◌+◌, ◌≤◌, ◌⊎◌, inl, inr, Bool, true, false, ◌||◌, ◌==◌, nat_lt, nat_le, List, [], ◌∷◌, ◌++◌, length, map, codes, Option, Some, None, option_and_then, bytes_eq, refl, sym, ap, subst, ◌∙◌, arith, append_assoc, append-nil, eqb-true, length-append}
 use Rattle.std.proofs.lemmas.Bool.Decides.{nat_tests}
 use Rattle.std.proofs.lemmas.Slice.Eq.{bytes_eq-Decides}
 use Rattle.std.specs.Char.{to_ascii_lowercase}
@@ -8,15 +7,13 @@ use Rattle.std.specs.List.{list_all}
 use Rattle.sds_types.specs.declared.subselect.Compared.{Compared}
 use Rattle.sds_types.specs.declared.subselect.Compared.TheVariants.{Routed, Text}
 use Rattle.sds_types.specs.declared.subselect.Condition.{Condition}
-use Rattle.sds_types.specs.declared.subselect.NodeColumn.{NodeColumn}
-use Rattle.sds_types.specs.declared.subselect.NodeColumn.TheVariants.{ExternalId, NodeId}
 use Rattle.sds_types.specs.declared.subselect.Subselect.{Subselect}
 use Rattle.sds_value.specs.Names.{is_name_text, is_name_character}
 use Rattle.sds_expressions.specs.declared.subselect_router.Reading.{Reading}
 use Rattle.sds_expressions.specs.declared.subselect_router.Slot.{Slot}
 use Rattle.sds_expressions.specs.declared.subselect_router.Slot.TheVariants as slot
 use Rattle.sds_expressions.specs.SubselectRouter as choice
-use Rattle.sds_expressions.specs.Forms.{Form, ◌▸◌, Exactly, AnyOf, Name}
+use Rattle.sds_expressions.specs.Forms.{Form, ◌▸◌, Exactly, Name}
 use Rattle.sds_expressions.specs.ColumnForm.{doubled, quoted}
 use Rattle.sds_expressions.specs.SubselectForm.{is_spacing, Spacing, Gap, Keyword, keyword_of, ValueOf, ConditionOf, SpacingAfter, ConditionsOf, IsSubselectForm}
 use Rattle.sds_expressions.proofs.Accepting.{value_of, branch, in_front, grouped}

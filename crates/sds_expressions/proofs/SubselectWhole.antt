@@ -1,5 +1,5 @@
 -- What has the form of a `subselect` router's expression is accepted.
-use Rattle.std.proofs.Common.{◌≡◌, ℕ, ◌+◌, ◌≤◌, ◌⊎◌, inl, inr, Bool, true, false, not, ◌&&◌, ◌||◌, ◌==◌, cond, if◌then◌else◌, nat_lt, nat_le, List, [], ◌∷◌, ◌++◌, length, map, codes, Option, Some, None, option_and_then, refl, sym, ap, subst, ◌∙◌, arith, append_assoc, append-nil, eqb-true, length-append}
+use Rattle.std.proofs.Common.{◌≡◌, ℕ, ◌+◌, ◌⊎◌, inl, inr, Bool, true, false, ◌||◌, ◌==◌, nat_lt, nat_le, List, [], ◌∷◌, ◌++◌, length, map, codes, Some, option_and_then, refl, sym, ap, subst, ◌∙◌, arith, append_assoc, append-nil, eqb-true, length-append}
 use Rattle.std.proofs.lemmas.Bool.{and_parts}
 use Rattle.std.proofs.lemmas.Bool.Decides.{nat_tests}
 use Rattle.std.specs.Char.{to_ascii_lowercase}
@@ -15,8 +15,8 @@ use Rattle.sds_expressions.specs.declared.subselect_router.Reading.{Reading}
 use Rattle.sds_expressions.specs.declared.subselect_router.Slot.{Slot}
 use Rattle.sds_expressions.specs.declared.subselect_router.Slot.TheVariants as slot
 use Rattle.sds_expressions.specs.SubselectRouter as choice
-use Rattle.sds_expressions.specs.Forms.{Form, ◌▸◌, Exactly, AnyOf, Name}
-use Rattle.sds_expressions.specs.ColumnForm.{doubled, quoted}
+use Rattle.sds_expressions.specs.Forms.{◌▸◌, Exactly, Name}
+use Rattle.sds_expressions.specs.ColumnForm.{doubled}
 use Rattle.sds_expressions.specs.SubselectForm.{is_spacing, Spacing, Gap, Keyword, keyword_of, ValueOf, ConditionOf, SpacingAfter, ConditionsOf, IsSubselectForm}
 use Rattle.sds_expressions.proofs.ColumnHope.{front_is}
 use Rattle.sds_expressions.proofs.SubselectSound.{accept, on, before, within, SpacingIf, IsWordSlot, IsSignSlot, closes, at_prefix, at_which, at_in, at_select, at_column, at_from, at_table, at_where, at_tested, at_routed, at_next, at_dot, at_open, at_equals}

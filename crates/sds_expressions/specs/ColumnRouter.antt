@@ -1,7 +1,6 @@
 -- Decides which texts are expressions of a `column` router, character by character (ColumnForm).
-use Rattle.std.specs.Prelude.{ℕ, ◌+◌, Bool, true, false, ◌||◌, ◌==◌, nat_le, if◌then◌else◌, List, [], ◌∷◌, ◌++◌, length, drop, codes, Option, Some, None, Result, Ok, Err}
+use Rattle.std.specs.Prelude.{ℕ, Bool, true, false, ◌||◌, ◌==◌, nat_le, if◌then◌else◌, List, [], ◌∷◌, ◌++◌, length, drop, codes, Option, Some, None, Result}
 use Rattle.std.specs.List.{starts_with}
-use Rattle.std.specs.Char.{is_ascii_alphanumeric}
 use Rattle.std.specs.Str.{bytes_eq}
 use Rattle.sds_types.specs.declared.column_test.ColumnTest.{ColumnTest}
 use Rattle.sds_types.specs.declared.column_test.Operand.{Operand}
