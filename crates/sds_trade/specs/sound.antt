@@ -3,5 +3,6 @@ pub mod Sections
 pub mod Tables
 pub mod Triggers
 pub mod Routers
+pub mod TransformColumns
 pub mod Transforms
 pub mod Conflicts

@@ -8,19 +8,23 @@ use Rattle.sds_value.specs.declared.table.TableDef.{TableDef}
 
 -- the columns of the table at a place
 abbrev pub columns_at : List TableDef → ℕ → List ColumnDef
-columns_at defs table = option_map_or (λ (def : TableDef). def.columns) (slice_get defs table) []
+columns_at defs table =
+    option_map_or (λ (def : TableDef). def.columns) (slice_get defs table) []
 
 -- the places of the key columns of the table at a place, in the key's order
 abbrev pub key_places : List TableDef → ℕ → List ℕ
-key_places defs table = option_map_or (λ (def : TableDef). def.key) (slice_get defs table) []
+key_places defs table =
+    option_map_or (λ (def : TableDef). def.key) (slice_get defs table) []
 
 -- the name of the table at a place
 abbrev pub table_name : List TableDef → ℕ → List ℕ
-table_name defs table = option_map_or (λ (def : TableDef). def.name) (slice_get defs table) []
+table_name defs table =
+    option_map_or (λ (def : TableDef). def.name) (slice_get defs table) []
 
 -- the name of the column at a place
 abbrev pub column_name : List ColumnDef → ℕ → List ℕ
-column_name columns place = option_map_or (λ (column : ColumnDef). column.name) (slice_get columns place) []
+column_name columns place =
+    option_map_or (λ (column : ColumnDef). column.name) (slice_get columns place) []
 
 -- the names of the key columns of the table at a place, in the key's order
 abbrev pub key_names : List TableDef → ℕ → List (List ℕ)
@@ -32,7 +36,7 @@ table_place defs name = position (λ (def : TableDef). bytes_eq def.name name) d
 
 -- the table of a name
 abbrev pub table_named : List TableDef → List ℕ → Option TableDef
-table_named defs name = option_and_then (λ place. slice_get defs place) (table_place defs name)
+table_named defs name = option_and_then (slice_get defs) (table_place defs name)
 
 -- the place of the column of a name
 abbrev pub column_place : List ColumnDef → List ℕ → Option ℕ
@@ -40,8 +44,7 @@ column_place columns name = position (λ (column : ColumnDef). bytes_eq column.n
 
 -- the column of a name
 abbrev pub column_named : List ColumnDef → List ℕ → Option ColumnDef
-column_named columns name =
-    option_and_then (λ place. slice_get columns place) (column_place columns name)
+column_named columns name = option_and_then (slice_get columns) (column_place columns name)
 
 -- a table has a column of a name
 abbrev pub has_column : TableDef → List ℕ → Bool

@@ -1,4 +1,4 @@
--- What every configuration promises: all that the rules, and the crates that carry them out, rely on.
+-- What every configuration promises: all that the rules and the crates above them rely on.
 use Rattle.sds_types.specs.declared.config.Config.{Config}
 use Rattle.sds_trade.specs.sound.Sections.{AreGroups, AreLinks, AreChannels}
 use Rattle.sds_trade.specs.sound.Tables.{AreTableDefs}

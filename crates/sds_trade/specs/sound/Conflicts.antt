@@ -1,5 +1,5 @@
 -- Of a sound configuration: its conflict settings.
-use Rattle.std.specs.Prelude.{◌≡◌, ℕ, ◌<◌, ◌≤◌, Bool, true, false, ◌&&◌, ◌==◌, IsTrue, List, length, Option, None, Some, slice_get}
+use Rattle.std.specs.Prelude.{◌≡◌, ℕ, ◌<◌, ◌≤◌, Bool, true, false, ◌&&◌, ◌==◌, IsTrue, List, length, Option, None, slice_get, option_and_then, IsSomeAnd}
 use Rattle.std.specs.List.{All, AllPairs}
 use Rattle.sds_value.specs.declared.kind.Kind.{Kind}
 use Rattle.sds_value.specs.declared.kind.Kind.TheVariants.{Integer, Timestamp}
@@ -21,9 +21,9 @@ names_column detect = false
 
 -- the column at a place has this kind
 abbrev pub HasKind : List ColumnDef → Kind → Option ℕ → Type 0
-HasKind columns kind None = ⊥
-HasKind columns kind (Some place) =
-    (column : ColumnDef) × (slice_get columns place ≡ Some column) × (column.kind ≡ kind)
+HasKind columns kind place =
+    IsSomeAnd (option_and_then (slice_get columns) place)
+    (λ (column : ColumnDef). column.kind ≡ kind)
 
 -- a timestamp's column is a TIMESTAMP, a version's an INTEGER, and no other detection has a column
 abbrev pub NamesWell : List ColumnDef → DetectType → Option ℕ → Type 0
@@ -36,13 +36,15 @@ pub record IsConflict (config : Config) (conflict : ConflictDef) : Type 0 where
   pub target : conflict.target_group < length config.groups
   pub linked : IsTrue (leads config.links conflict.source_group conflict.target_group)
   pub table : conflict.target_table < length config.tables
-  pub column : NamesWell (columns_at config.tables conflict.target_table) conflict.detect_type conflict.detect_expression
+  pub column : NamesWell (columns_at config.tables conflict.target_table)
+      conflict.detect_type conflict.detect_expression
   pub newer : conflict.resolve_type ≡ NewerWins → names_column conflict.detect_type ≡ true
 
 -- two are for one table between the same two groups
 abbrev pub settle_alike : ConflictDef → ConflictDef → Bool
 settle_alike a b =
-    a.source_group == b.source_group && (a.target_group == b.target_group && a.target_table == b.target_table)
+    a.source_group == b.source_group
+    && (a.target_group == b.target_group && a.target_table == b.target_table)
 
 pub record AreConflicts (config : Config) : Type 0 where
   pub few : length config.conflicts ≤ most_conflicts

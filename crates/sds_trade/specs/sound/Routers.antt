@@ -31,7 +31,8 @@ is_condition_known defs def condition =
 abbrev pub is_lookup_known : List TableDef → Lookup → Option TableDef → Bool
 is_lookup_known defs lookup None = false
 is_lookup_known defs lookup (Some def) =
-    has_column def lookup.lookup_column && (has_column def lookup.external_id && is_a_column defs lookup.column)
+    has_column def lookup.lookup_column
+    && (has_column def lookup.external_id && is_a_column defs lookup.column)
 
 -- the table that is chosen from has the column of the choice and those of the conditions
 abbrev pub is_choice_known : List TableDef → Subselect → Option TableDef → Bool
@@ -42,9 +43,12 @@ is_choice_known defs choice (Some def) =
 -- the tables and columns that an expression names are the configuration's
 abbrev pub are_names_known : List TableDef → RouterExpression → Bool
 are_names_known defs Everything = true
-are_names_known defs (Tests tests) = list_all (λ (test : ColumnTest). is_a_column defs test.name) tests
-are_names_known defs (Finds lookup) = is_lookup_known defs lookup (table_named defs lookup.table)
-are_names_known defs (Chooses choice) = is_choice_known defs choice (table_named defs choice.table)
+are_names_known defs (Tests tests) =
+    list_all (λ (test : ColumnTest). is_a_column defs test.name) tests
+are_names_known defs (Finds lookup) =
+    is_lookup_known defs lookup (table_named defs lookup.table)
+are_names_known defs (Chooses choice) =
+    is_choice_known defs choice (table_named defs choice.table)
 
 -- a router leads where a link does, and is parsed as its text says, of names that are known
 pub record IsRouter (config : Config) (router : RouterDef) : Type 0 where

@@ -1,7 +1,6 @@
 -- Of a sound configuration: its tables, their columns, keys and references.
-use Rattle.std.specs.Prelude.{◌≡◌, ◌≢◌, ℕ, ◌*◌, ◌<◌, ◌≤◌, true, IsTrue, List, [], ◌∷◌, length, Option, None, Some, slice_get, IfSome}
+use Rattle.std.specs.Prelude.{◌≡◌, ◌≢◌, ℕ, ◌*◌, ◌<◌, ◌≤◌, true, IsTrue, List, [], ◌∷◌, length, Option, None, Some, option_map, slice_get, IfSome, IsSomeAnd}
 use Rattle.std.specs.List.{All, AllPairs, sum_by, enumerate_from}
-use Rattle.std.specs.List.Sorted.{IsStrictlyIncreasing}
 use Rattle.sds_value.specs.Names.{is_name_text}
 use Rattle.sds_value.specs.declared.kind.Kind.{Kind}
 use Rattle.sds_value.specs.declared.kind.Kind.TheVariants.{Integer, Decimal, Varchar, Timestamp, Varbinary}
@@ -33,30 +32,38 @@ pub record AreColumns (columns : List ColumnDef) : Type 0 where
   pub named : All (λ (column : ColumnDef). IsTrue (is_name_text column.name)) columns
   pub apart : AllPairs (λ (a b : ColumnDef). a.name ≢ b.name) columns
 
+-- a column that doesn't allow null
+abbrev pub IsPresent : ColumnDef → Type 0
+IsPresent column = column.not_null ≡ true
+
 -- a key: one column or more of the table, in the table's order, none of which allows null
 pub record IsKey (columns : List ColumnDef) (key : List ℕ) : Type 0 where
   pub some : 1 ≤ length key
   pub few : length key ≤ most_columns
-  pub ascends : IsStrictlyIncreasing key
+  pub ascends : AllPairs (λ (a b : ℕ). a < b) key
   pub within : All (λ (place : ℕ). place < length columns) key
-  pub present : All (λ (place : ℕ).
-      IfSome (slice_get columns place) (λ (column : ColumnDef). column.not_null ≡ true)) key
+  pub present : All (λ (place : ℕ). IsSomeAnd (slice_get columns place) IsPresent) key
 
 -- the kind of the key of a table whose key is one column
 abbrev pub single_kind : List ColumnDef → List ℕ → Option Kind
 single_kind columns [] = None
-single_kind columns (place ∷ []) = elim (slice_get columns place) [ None ↦ None | Some column ↦ Some column.kind ]
+single_kind columns (place ∷ []) =
+    option_map (λ (column : ColumnDef). column.kind) (slice_get columns place)
 single_kind columns (place ∷ (next ∷ places)) = None
 
--- a column of the table at a place refers to that table or an earlier one, whose key is one column of the same kind
+-- a column of the table at a place refers to that table or an earlier one, whose key is one column
+-- of the same kind
 pub record Refers (defs : List TableDef) (table : ℕ) (column : ColumnDef) (parent : ℕ) : Type 0 where
   pub earlier : parent ≤ table
-  pub alike : IfSome (slice_get defs parent)
+  pub alike : IsSomeAnd (slice_get defs parent)
       (λ (def : TableDef). single_kind def.columns def.key ≡ Some column.kind)
 
-abbrev pub ReferTo : List TableDef → ℕ × TableDef → Type 0
-ReferTo defs at =
-    All (λ (column : ColumnDef). IfSome column.parent (λ (parent : ℕ). Refers defs at.0 column parent)) at.1.columns
+abbrev pub RefersWell : List TableDef → ℕ → ColumnDef → Type 0
+RefersWell defs table column = IfSome column.parent (Refers defs table column)
+
+-- the columns of a table with its place
+abbrev pub ReferWell : List TableDef → ℕ × TableDef → Type 0
+ReferWell defs at = All (RefersWell defs at.0) at.1.columns
 
 pub record AreTableDefs (defs : List TableDef) : Type 0 where
   pub few : length defs ≤ most_tables
@@ -64,4 +71,4 @@ pub record AreTableDefs (defs : List TableDef) : Type 0 where
   pub apart : AllPairs (λ (a b : TableDef). a.name ≢ b.name) defs
   pub columns : All (λ (def : TableDef). AreColumns def.columns) defs
   pub keys : All (λ (def : TableDef). IsKey def.columns def.key) defs
-  pub references : All (ReferTo defs) (enumerate_from 0 defs)
+  pub references : All (ReferWell defs) (enumerate_from 0 defs)

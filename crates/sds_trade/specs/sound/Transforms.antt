@@ -1,115 +1,48 @@
--- Of a sound configuration: its transforms and their columns.
-use Rattle.std.specs.Prelude.{◌≡◌, ◌≢◌, ℕ, ◌<◌, ◌≤◌, ◌⊎◌, Bool, true, false, not, ◌&&◌, ◌||◌, ◌==◌, IsTrue, List, [], length, codes, Option, None, Some, slice_get}
+-- Of a sound configuration: its transforms.
+use Rattle.std.specs.Prelude.{◌≡◌, ◌≢◌, ℕ, ◌<◌, ◌≤◌, Bool, true, false, not, ◌&&◌, ◌||◌, IsTrue, List, length, IsSomeAnd}
 use Rattle.std.specs.List.{All, AllPairs, list_any, count_by}
 use Rattle.std.specs.Str.{bytes_eq}
 use Rattle.sds_value.specs.Names.{is_name_text}
-use Rattle.sds_value.specs.declared.kind.Kind.{Kind}
-use Rattle.sds_value.specs.declared.kind.Kind.TheVariants.{Integer, Decimal}
 use Rattle.sds_value.specs.declared.table.TableDef.{TableDef}
-use Rattle.sds_types.specs.Limits.{most_transforms, most_transform_columns, most_transform_keys, most_expression_characters}
+use Rattle.sds_types.specs.Limits.{most_transforms, most_transform_columns, most_transform_keys}
 use Rattle.sds_types.specs.declared.config.Config.{Config}
 use Rattle.sds_types.specs.declared.transform.ColumnPolicy.{ColumnPolicy}
-use Rattle.sds_types.specs.declared.transform.ColumnPolicy.TheVariants.{Specified, Implied}
 use Rattle.sds_types.specs.declared.transform.Point.{Point}
 use Rattle.sds_types.specs.declared.transform.Point.TheVariants.{Extract, Load}
 use Rattle.sds_types.specs.declared.transform.TransformDef.{TransformDef}
-use Rattle.sds_types.specs.declared.transform_column.ColumnKind.{ColumnKind}
-use Rattle.sds_types.specs.declared.transform_column.ColumnKind.TheVariants.{Remove, Additive}
 use Rattle.sds_types.specs.declared.transform_column.TransformColumn.{TransformColumn}
-use Rattle.sds_trade.specs.rules.Places.{table_named, column_name, column_place, has_column, is_key_place}
-use Rattle.sds_trade.specs.rules.Expressions.{column_expression_of}
+use Rattle.sds_trade.specs.rules.Places.{table_named, column_name}
 use Rattle.sds_trade.specs.sound.Sections.{leads}
+use Rattle.sds_trade.specs.sound.TransformColumns.{IsTransformColumn, is_remove, is_implied, clash}
 
-abbrev pub is_remove : ColumnKind → Bool
-is_remove Remove = true
-is_remove kind = false
-
-abbrev pub is_additive : ColumnKind → Bool
-is_additive Additive = true
-is_additive kind = false
-
-abbrev pub is_implied : ColumnPolicy → Bool
-is_implied Implied = true
-is_implied Specified = false
-
--- `*` stands for all events, and else each event that takes part has its letter
-abbrev pub is_all_events : List ℕ → Bool
-is_all_events letters = bytes_eq letters (codes "*")
-
-abbrev pub has_letter : List ℕ → ℕ → Bool
-has_letter letters letter = list_any (λ (other : ℕ). other == letter) letters
-
--- one letter or more of I, U and D, none twice
-pub record AreLetters (letters : List ℕ) : Type 0 where
-  pub some : 1 ≤ length letters
-  pub known : All (λ (letter : ℕ). IsTrue (has_letter (codes "IUD") letter)) letters
-  pub apart : AllPairs (λ (a b : ℕ). a ≢ b) letters
-
--- two columns take part at one event
-abbrev pub share_event : List ℕ → List ℕ → Bool
-share_event a b = is_all_events a || (is_all_events b || list_any (has_letter b) a)
-
--- two columns make one target at one event
-abbrev pub clash : TransformColumn → TransformColumn → Bool
-clash a b = bytes_eq a.target b.target && share_event a.include_on b.include_on
-
--- a number may be added to a column of the table that holds numbers and is no key
-abbrev pub is_number : Kind → Bool
-is_number Integer = true
-is_number (Decimal digits) = true
-is_number kind = false
-
-abbrev pub is_number_at : TableDef → Option ℕ → Bool
-is_number_at def None = false
-is_number_at def (Some place) = elim (slice_get def.columns place) [
-  | None ↦ false
-  | Some column ↦ is_number column.kind && not (is_key_place def place)
-]
-
-abbrev pub takes_sums : TableDef → List ℕ → Bool
-takes_sums def name = is_number_at def (column_place def.columns name)
-
--- the source is a column of the configuration's table where a batch is written, and the target is one where it is loaded
-abbrev pub IsColumnKnown : Point → TableDef → TransformColumn → Type 0
-IsColumnKnown Extract def column = (column.source ≡ []) ⊎ IsTrue (has_column def column.source)
-IsColumnKnown Load def column = (column.kind ≡ Remove) ⊎ IsTrue (has_column def column.target)
-
-pub record IsTransformColumn (point : Point) (policy : ColumnPolicy) (def : TableDef) (column : TransformColumn) : Type 0 where
-  pub target : IsTrue (is_name_text column.target)
-  pub source : (column.source ≡ []) ⊎ IsTrue (is_name_text column.source)
-  pub known : IsColumnKnown point def column
-  pub events : (column.include_on ≡ codes "*") ⊎ AreLetters column.include_on
-  pub key_events : column.pk ≡ true → column.include_on ≡ codes "*"
-  pub key_made : column.pk ≡ true → is_remove column.kind ≡ false
-  pub short : length column.expression ≤ most_expression_characters
-  pub parsed : column_expression_of column.kind column.expression ≡ Some column.parsed
-  pub removes : is_remove column.kind ≡ true → policy ≡ Implied
-  pub adds_at : is_additive column.kind ≡ true → point ≡ Load
-  pub adds_to : is_additive column.kind ≡ true → takes_sums def column.target ≡ true
-  pub adds_no_key : is_additive column.kind ≡ true → column.pk ≡ false
+abbrev pub is_pk : TransformColumn → Bool
+is_pk column = column.pk
 
 -- a key column of the source that no `remove` takes away
 abbrev pub removes_column : List ℕ → TransformColumn → Bool
 removes_column name column = is_remove column.kind && bytes_eq column.target name
 
 abbrev pub key_remains : TableDef → List TransformColumn → ℕ → Bool
-key_remains def columns place = not (list_any (removes_column (column_name def.columns place)) columns)
+key_remains def columns place =
+    not (list_any (removes_column (column_name def.columns place)) columns)
 
--- where a batch is written the made rows have a key: a listed one, or under the implied policy one of the source's
+-- where a batch is written the made rows have a key: a listed one, or under the implied policy one of
+-- the source's
 abbrev pub has_key : Point → ColumnPolicy → TableDef → List TransformColumn → Bool
 has_key Load policy def columns = true
 has_key Extract policy def columns =
-    list_any (λ (column : TransformColumn). column.pk) columns
+    list_any is_pk columns
     || (is_implied policy && list_any (key_remains def columns) def.key)
 
 -- the name of the table that is the configuration's
 abbrev pub own_table : TransformDef → List ℕ
-own_table transform = elim transform.point [ Extract ↦ transform.source_table | Load ↦ transform.target_table ]
+own_table transform =
+    elim transform.point [ Extract ↦ transform.source_table | Load ↦ transform.target_table ]
 
 -- what holds of a transform of or for this table
 pub record FitsTable (transform : TransformDef) (def : TableDef) : Type 0 where
   pub each : All (IsTransformColumn transform.point transform.column_policy def) transform.columns
-  pub keys : count_by (λ (column : TransformColumn). column.pk) transform.columns ≤ most_transform_keys
+  pub keys : count_by is_pk transform.columns ≤ most_transform_keys
   pub keyed : IsTrue (has_key transform.point transform.column_policy def transform.columns)
 
 pub record IsTransform (config : Config) (transform : TransformDef) : Type 0 where
@@ -121,7 +54,7 @@ pub record IsTransform (config : Config) (transform : TransformDef) : Type 0 whe
   pub target_name : IsTrue (is_name_text transform.target_table)
   pub few : length transform.columns ≤ most_transform_columns
   pub apart : AllPairs (λ (a b : TransformColumn). clash a b ≡ false) transform.columns
-  pub table : (def : TableDef) × (table_named config.tables (own_table transform) ≡ Some def) × FitsTable transform def
+  pub table : IsSomeAnd (table_named config.tables (own_table transform)) (FitsTable transform)
 
 pub record AreTransforms (config : Config) : Type 0 where
   pub few : length config.transforms ≤ most_transforms
