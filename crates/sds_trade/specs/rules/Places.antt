@@ -1,5 +1,5 @@
 -- What stands at a place in a list of the configuration, and at which place a name stands.
-use Rattle.std.specs.Prelude.{ℕ, Bool, ◌==◌, List, [], map, Option, option_and_then, slice_get}
+use Rattle.std.specs.Prelude.{ℕ, Bool, ◌==◌, List, [], map, Option, option_and_then, unwrap_or, slice_get}
 use Rattle.std.specs.List.{list_any, position}
 use Rattle.std.specs.Option.{option_map_or}
 use Rattle.std.specs.Str.{bytes_eq}
@@ -61,3 +61,7 @@ is_key_place def place = list_any (λ (key : ℕ). key == place) def.key
 -- one of a list of texts is this text
 abbrev pub is_among : List (List ℕ) → List ℕ → Bool
 is_among names name = list_any (λ (other : List ℕ). bytes_eq other name) names
+
+-- the name of the group at a place
+abbrev pub group_name : List (List ℕ) → ℕ → List ℕ
+group_name groups place = unwrap_or (slice_get groups place) []

@@ -36,7 +36,7 @@ pub record AreColumns (columns : List ColumnDef) : Type 0 where
 abbrev pub IsPresent : ColumnDef → Type 0
 IsPresent column = column.not_null ≡ true
 
--- a key: one column or more of the table, in the table's order, none of which allows null
+-- a key: columns of the table, one or more, in the table's order, none of which allows null
 pub record IsKey (columns : List ColumnDef) (key : List ℕ) : Type 0 where
   pub some : 1 ≤ length key
   pub few : length key ≤ most_columns
@@ -53,7 +53,8 @@ single_kind columns (place ∷ (next ∷ places)) = None
 
 -- a column of the table at a place refers to that table or an earlier one, whose key is one column
 -- of the same kind
-pub record Refers (defs : List TableDef) (table : ℕ) (column : ColumnDef) (parent : ℕ) : Type 0 where
+pub record Refers (defs : List TableDef) (table : ℕ) (column : ColumnDef) (parent : ℕ)
+    : Type 0 where
   pub earlier : parent ≤ table
   pub alike : IsSomeAnd (slice_get defs parent)
       (λ (def : TableDef). single_kind def.columns def.key ≡ Some column.kind)

@@ -1,5 +1,5 @@
 -- Of a sound configuration: the columns of its transforms.
-use Rattle.std.specs.Prelude.{◌≡◌, ◌≢◌, ℕ, ◌≤◌, ◌⊎◌, Bool, true, false, not, ◌&&◌, ◌||◌, ◌==◌, IsTrue, List, [], length, codes, Option, None, Some, slice_get}
+use Rattle.std.specs.Prelude.{◌≡◌, ◌≢◌, ℕ, ◌≤◌, ◌⊎◌, Bool, true, false, not, ◌&&◌, ◌||◌, IsTrue, List, [], length, codes, Option, None, Some, slice_get}
 use Rattle.std.specs.List.{All, AllPairs, list_any}
 use Rattle.std.specs.Str.{bytes_eq}
 use Rattle.sds_value.specs.Names.{is_name_text}
@@ -8,33 +8,14 @@ use Rattle.sds_value.specs.declared.kind.Kind.TheVariants.{Integer, Decimal}
 use Rattle.sds_value.specs.declared.table.TableDef.{TableDef}
 use Rattle.sds_types.specs.Limits.{most_expression_characters}
 use Rattle.sds_types.specs.declared.transform.ColumnPolicy.{ColumnPolicy}
-use Rattle.sds_types.specs.declared.transform.ColumnPolicy.TheVariants.{Specified, Implied}
+use Rattle.sds_types.specs.declared.transform.ColumnPolicy.TheVariants.{Implied}
 use Rattle.sds_types.specs.declared.transform.Point.{Point}
 use Rattle.sds_types.specs.declared.transform.Point.TheVariants.{Extract, Load}
-use Rattle.sds_types.specs.declared.transform_column.ColumnKind.{ColumnKind}
-use Rattle.sds_types.specs.declared.transform_column.ColumnKind.TheVariants.{Remove, Additive}
+use Rattle.sds_types.specs.declared.transform_column.ColumnKind.TheVariants.{Remove}
 use Rattle.sds_types.specs.declared.transform_column.TransformColumn.{TransformColumn}
+use Rattle.sds_trade.specs.rules.ColumnFunctions.{is_remove, is_additive, is_all_events, has_letter}
 use Rattle.sds_trade.specs.rules.Places.{column_place, has_column, is_key_place}
 use Rattle.sds_trade.specs.rules.Expressions.{column_expression_of}
-
-abbrev pub is_remove : ColumnKind → Bool
-is_remove Remove = true
-is_remove kind = false
-
-abbrev pub is_additive : ColumnKind → Bool
-is_additive Additive = true
-is_additive kind = false
-
-abbrev pub is_implied : ColumnPolicy → Bool
-is_implied Implied = true
-is_implied Specified = false
-
--- `*` stands for all events, and else each event that takes part has its letter
-abbrev pub is_all_events : List ℕ → Bool
-is_all_events letters = bytes_eq letters (codes "*")
-
-abbrev pub has_letter : List ℕ → ℕ → Bool
-has_letter letters letter = list_any (λ (other : ℕ). other == letter) letters
 
 -- one letter or more of I, U and D, none twice
 pub record AreLetters (letters : List ℕ) : Type 0 where
@@ -66,8 +47,8 @@ is_number_at def (Some place) = elim (slice_get def.columns place) [
 abbrev pub takes_sums : TableDef → List ℕ → Bool
 takes_sums def name = is_number_at def (column_place def.columns name)
 
--- where a batch is written the source is a column of the configuration's table, and where it is loaded
--- the target is
+-- where a batch is written the source is a column of the configuration's table, and where it is
+-- loaded the target is
 abbrev pub IsColumnKnown : Point → TableDef → TransformColumn → Type 0
 IsColumnKnown Extract def column = (column.source ≡ []) ⊎ IsTrue (has_column def column.source)
 IsColumnKnown Load def column = (column.kind ≡ Remove) ⊎ IsTrue (has_column def column.target)

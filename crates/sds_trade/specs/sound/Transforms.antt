@@ -13,7 +13,9 @@ use Rattle.sds_types.specs.declared.transform.TransformDef.{TransformDef}
 use Rattle.sds_types.specs.declared.transform_column.TransformColumn.{TransformColumn}
 use Rattle.sds_trade.specs.rules.Places.{table_named, column_name}
 use Rattle.sds_trade.specs.sound.Sections.{leads}
-use Rattle.sds_trade.specs.sound.TransformColumns.{IsTransformColumn, is_remove, is_implied, clash}
+use Rattle.sds_trade.specs.sound.TransformColumns.{IsTransformColumn, clash}
+use Rattle.sds_trade.specs.rules.ColumnFunctions.{is_remove}
+use Rattle.sds_trade.specs.rules.MadeSides.{is_implied}
 
 abbrev pub is_pk : TransformColumn → Bool
 is_pk column = column.pk
@@ -26,8 +28,8 @@ abbrev pub key_remains : TableDef → List TransformColumn → ℕ → Bool
 key_remains def columns place =
     not (list_any (removes_column (column_name def.columns place)) columns)
 
--- where a batch is written the made rows have a key: a listed one, or under the implied policy one of
--- the source's
+-- where a batch is written the made rows have a key: a listed one, or under the implied policy one
+-- of the source's
 abbrev pub has_key : Point → ColumnPolicy → TableDef → List TransformColumn → Bool
 has_key Load policy def columns = true
 has_key Extract policy def columns =
