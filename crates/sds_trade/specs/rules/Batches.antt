@@ -22,18 +22,18 @@ channel_order a b =
 abbrev pub goes_before : ℕ × ChannelDef → ℕ × ChannelDef → Bool
 goes_before a b = is_lt (channel_order a.1 b.1)
 
-abbrev pub sorted_with : ℕ × ChannelDef → List (ℕ × ChannelDef) → List (ℕ × ChannelDef)
-sorted_with new channels =
+abbrev pub with_channel : ℕ × ChannelDef → List (ℕ × ChannelDef) → List (ℕ × ChannelDef)
+with_channel new channels =
     filter (λ (at : ℕ × ChannelDef). goes_before at new) channels
     ++ new ∷ filter (λ (at : ℕ × ChannelDef). goes_before new at) channels
 
-abbrev pub sorted : List (ℕ × ChannelDef) → List (ℕ × ChannelDef)
-sorted [] = []
-sorted (channel ∷ channels) = sorted_with channel (sorted channels)
+abbrev pub sorted_channels : List (ℕ × ChannelDef) → List (ℕ × ChannelDef)
+sorted_channels [] = []
+sorted_channels (channel ∷ channels) = with_channel channel (sorted_channels channels)
 
 -- the channels with their places, in the order in which they go
 abbrev pub channels_in_order : Config → List (ℕ × ChannelDef)
-channels_in_order config = sorted (enumerate_from 0 config.channels)
+channels_in_order config = sorted_channels (enumerate_from 0 config.channels)
 
 -- a change with the places of the peers that it is for
 abbrev pub is_for : ℕ → ℕ → Change × List ℕ → Bool
@@ -66,9 +66,10 @@ numbered_batch at = record at.1 { id = at.0 }
 abbrev pub batches_of : Config → ℕ → ℕ → List (Change × List ℕ) → List NewBatch
 batches_of config peers first routed = map numbered_batch (enumerate_from first
     (flat_map (λ (at : ℕ × ChannelDef). flat_map (lane_batches routed at) (range_with_len 0 peers))
-        (channels_in_order config)))
+    (channels_in_order config)))
 
 -- what a routing run at a node makes of the changes that wait, where certain rows stand
-abbrev pub routed : Config → Peer → List TableRow → List Peer → List Change → List (Change × List ℕ)
-routed config me rows peers changes =
+abbrev pub routed_changes : Config → Peer → List TableRow → List Peer → List Change
+    → List (Change × List ℕ)
+routed_changes config me rows peers changes =
     map (λ (change : Change). (change, targets_of config me rows peers change)) changes

@@ -42,7 +42,7 @@ leads_from config group router =
 abbrev pub is_joined : Config → List ℕ → ℕ → Bool
 is_joined config group trigger =
     list_any (λ (join : TriggerRouterDef).
-        join.enabled && (join.trigger == trigger && leads_from config group join.router))
+    join.enabled && (join.trigger == trigger && leads_from config group join.router))
     config.trigger_routers
 
 -- a trigger with its place captures a step at a node of a group; `incoming`: a batch brought it
@@ -54,7 +54,7 @@ captures config group incoming step at = syncs_on at.1 (event_of step)
 abbrev pub captured_channel : Config → List ℕ → Bool → RowStep → Option ℕ
 captured_channel config group incoming step =
     option_and_then (λ (at : ℕ × TriggerDef).
-        elim (captures config group incoming step at) [ true ↦ Some at.1.channel | false ↦ None ])
+    elim (captures config group incoming step at) [ true ↦ Some at.1.channel | false ↦ None ])
     (trigger_on config (table_of step))
 
 -- a step would be captured where too many changes stood unrouted before its transaction
@@ -75,15 +75,15 @@ change_in tx source done channel = record {
   source = source;
 }
 
-abbrev pub caught : Config → List ℕ → ℕ → Option (List ℕ) → Done → Option Change
-caught config group tx source done =
+abbrev pub change_of : Config → List ℕ → ℕ → Option (List ℕ) → Done → Option Change
+change_of config group tx source done =
     option_map (change_in tx source done)
     (captured_channel config group (is_some source) done.step)
 
 -- the changes of a transaction's steps: those that are captured, with consecutive numbers
-abbrev pub numbered : ℕ × Change → Change
-numbered at = record at.1 { id = at.0 }
+abbrev pub numbered_change : ℕ × Change → Change
+numbered_change at = record at.1 { id = at.0 }
 
 abbrev pub changes_of : Config → List ℕ → ℕ → ℕ → Option (List ℕ) → List Done → List Change
 changes_of config group first tx source dones =
-    map numbered (enumerate_from first (filter_map (caught config group tx source) dones))
+    map numbered_change (enumerate_from first (filter_map (change_of config group tx source) dones))

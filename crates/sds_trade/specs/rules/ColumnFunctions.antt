@@ -62,8 +62,8 @@ target_of pairs source = option_map (λ (pair : MapPair). pair.target)
     (find (λ (pair : MapPair). bytes_eq pair.source source) pairs)
 
 -- the target of the text, else that of `*`, else null
-abbrev pub mapped : List MapPair → List ℕ → Field
-mapped pairs text = option_map_or (λ (target : List ℕ). Text target)
+abbrev pub mapped_text : List MapPair → List ℕ → Field
+mapped_text pairs text = option_map_or (λ (target : List ℕ). Text target)
     (option_or (target_of pairs text) (target_of pairs (codes "*"))) Null
 
 abbrev pub node_of : Way → NodeWord → List ℕ
@@ -81,4 +81,4 @@ field_made way (says.Left count) (Text text) = Text (take count text)
 field_made way (says.Substr piece) Null = Null
 field_made way (says.Substr piece) (Text text) = Text (piece_of piece text)
 field_made way (says.ValueMap pairs) Null = Null
-field_made way (says.ValueMap pairs) (Text text) = mapped pairs text
+field_made way (says.ValueMap pairs) (Text text) = mapped_text pairs text

@@ -16,7 +16,7 @@ use Rattle.sds_types.specs.declared.row.TableRow.{TableRow}
 use Rattle.sds_trade.specs.rules.RowValues.{gives, new_value, old_value}
 use Rattle.sds_trade.specs.rules.Tables.{same_value, value_at, row_at}
 
--- the row that stands where a row is to go: the one with the new key of an insert, else with the old
+-- the row that stands where a row is to go: of an insert by the new key, else by the old key
 abbrev pub target_row : List TableDef → List TableRow → LoadRow → Option Row
 target_row defs rows row = row_at defs rows row.table row.key
 
@@ -55,25 +55,26 @@ named_verdict row old kept (Some column) = elim (gives row column) [
 ]
 
 -- where the target row stands: by the detection, which but for the key's alone needs old values
-abbrev pub detected : DetectType → Option ℕ → LoadRow → Option (List Value) → Row → Verdict
-detected UsePkData column row old kept = No
-detected detect column row None kept = OldMissing
-detected UseOldData column row (Some old) kept = yes_if (old_differs row old kept)
-detected UseChangedData column row (Some old) kept =
+abbrev pub verdict_by : DetectType → Option ℕ → LoadRow → Option (List Value) → Row → Verdict
+verdict_by UsePkData column row old kept = No
+verdict_by detect column row None kept = OldMissing
+verdict_by UseOldData column row (Some old) kept = yes_if (old_differs row old kept)
+verdict_by UseChangedData column row (Some old) kept =
     yes_if (changed_differs row old kept row.event)
-detected UseTimestamp column row (Some old) kept = named_verdict row old kept column
-detected UseVersion column row (Some old) kept = named_verdict row old kept column
+verdict_by UseTimestamp column row (Some old) kept = named_verdict row old kept column
+verdict_by UseVersion column row (Some old) kept = named_verdict row old kept column
 
 -- of an update or a delete: a missing target row is a conflict; without a setting the key decides
-abbrev pub met : Option ConflictDef → LoadRow → Option Row → Verdict
-met setting row None = Yes
-met None row (Some kept) = No
-met (Some def) row (Some kept) = detected def.detect_type def.detect_expression row row.old kept
+abbrev pub verdict_at : Option ConflictDef → LoadRow → Option Row → Verdict
+verdict_at setting row None = Yes
+verdict_at None row (Some kept) = No
+verdict_at (Some def) row (Some kept) =
+    verdict_by def.detect_type def.detect_expression row row.old kept
 
 -- whether a row conflicts with its target row; an insert does where that stands
 abbrev pub verdict : Option ConflictDef → LoadRow → Option Row → Verdict
 verdict setting row target = elim row.event [
   | Insert ↦ yes_if (is_some target)
-  | Update ↦ met setting row target
-  | Delete ↦ met setting row target
+  | Update ↦ verdict_at setting row target
+  | Delete ↦ verdict_at setting row target
 ]

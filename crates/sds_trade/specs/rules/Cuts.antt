@@ -7,9 +7,9 @@ use Rattle.sds_types.specs.declared.row.Change.{Change}
 
 -- THE CUT, by its pieces
 -- the changes that pieces join to
-abbrev pub joined : List (List Change) → List Change
-joined [] = []
-joined (piece ∷ pieces) = piece ++ joined pieces
+abbrev pub changes_in : List (List Change) → List Change
+changes_in [] = []
+changes_in (piece ∷ pieces) = piece ++ changes_in pieces
 
 -- a piece ends where its last change's transaction ends in the list that goes on with these changes
 abbrev pub EndsBefore : List Change → List Change → Type 0
@@ -46,7 +46,7 @@ abbrev pub IsCut : Algorithm → ℕ → List (List Change) → Type 0
 IsCut algorithm max [] = Unit {0}
 IsCut algorithm max (piece ∷ []) = (piece ≢ []) × IsLastPiece algorithm max piece
 IsCut algorithm max (piece ∷ (next ∷ pieces)) =
-    (piece ≢ []) × IsPieceBefore algorithm max piece (joined (next ∷ pieces))
+    (piece ≢ []) × IsPieceBefore algorithm max piece (changes_in (next ∷ pieces))
     × IsCut algorithm max (next ∷ pieces)
 
 -- THE CUT, as a function
@@ -74,14 +74,14 @@ last_piece [] = []
 last_piece (change ∷ changes) = (change ∷ changes) ∷ []
 
 -- a piece takes whole runs until it is full, and so does each after it
-abbrev pub gathered : ℕ → List Change → List (List Change) → List (List Change)
-gathered max piece [] = last_piece piece
-gathered max piece (run ∷ runs) =
-    if nat_le max (length (piece ++ run)) then (piece ++ run) ∷ gathered max [] runs
-    else gathered max (piece ++ run) runs
+abbrev pub pieces_from : ℕ → List Change → List (List Change) → List (List Change)
+pieces_from max piece [] = last_piece piece
+pieces_from max piece (run ∷ runs) =
+    if nat_le max (length (piece ++ run)) then (piece ++ run) ∷ pieces_from max [] runs
+    else pieces_from max (piece ++ run) runs
 
 -- the pieces of these changes, in a channel whose batches are full at max changes, 1 or more
 abbrev pub cut : Algorithm → ℕ → List Change → List (List Change)
-cut Default max changes = gathered max [] (runs_of changes)
+cut Default max changes = pieces_from max [] (runs_of changes)
 cut Transactional max changes = runs_of changes
-cut Nontransactional max changes = gathered max [] (singles_of changes)
+cut Nontransactional max changes = pieces_from max [] (singles_of changes)

@@ -19,7 +19,7 @@ use Rattle.sds_types.specs.declared.rule.Rule.{Rule}
 use Rattle.sds_types.specs.declared.transform.Add.{Add}
 use Rattle.sds_trade.specs.rules.Places.{key_names, column_named, column_place}
 use Rattle.sds_trade.specs.rules.DocRows.{field_in, doc_table, doc_columns, key_fields}
-use Rattle.sds_trade.specs.rules.TextRules.{broken_text}
+use Rattle.sds_trade.specs.rules.TextRules.{broken_text_rule}
 
 -- the value of a field under its column's kind, where its text reads
 abbrev pub value_in : Binary → ColumnDef → Field → Value
@@ -39,7 +39,7 @@ values_in form columns names fields = map (named_value form columns) (zip names 
 abbrev pub told_key : List TableDef → Binary → DocRow → List Value
 told_key defs form doc =
     map (λ (name : List ℕ).
-        named_value form (doc_columns defs doc) (name, field_in (key_fields doc) name))
+    named_value form (doc_columns defs doc) (name, field_in (key_fields doc) name))
     (key_names defs (doc_table defs doc))
 
 -- the value that a list of places with their values has at a place, and null where it has none
@@ -96,4 +96,4 @@ by_rule (Some rule) row = Err rule
 -- a row read for its table, or the first rule that its texts break
 abbrev pub row_of : List TableDef → Binary → ℕ → DocRow → List Add → Result LoadRow Rule
 row_of defs form number doc adds =
-    by_rule (broken_text defs form doc) (with_adds (plain_row defs form number doc) adds)
+    by_rule (broken_text_rule defs form doc) (with_adds (plain_row defs form number doc) adds)

@@ -35,23 +35,36 @@ old_if_given doc made = option_map (λ (old : List Field). values_of made) doc.o
 -- the made row of an insert, an update and a delete; of the latter two the key is the old side's
 abbrev pub made_insert : Way → TransformDef → DocRow → DocRow
 made_insert way transform doc = let new = side_of way transform doc (new_side doc) in record {
-  event = Insert; table = transform.target_table; keys = keys_of transform doc new;
-  columns = names_of new; new = values_of new; key = []; old = None;
+  event = Insert;
+  table = transform.target_table;
+  keys = keys_of transform doc new;
+  columns = names_of new;
+  new = values_of new;
+  key = [];
+  old = None;
 }
 
 abbrev pub made_update : Way → TransformDef → DocRow → DocRow
 made_update way transform doc =
     let new = side_of way transform doc (new_side doc) in
     let old = side_of way transform doc (old_side doc) in record {
-      event = Update; table = transform.target_table; keys = keys_of transform doc new;
-      columns = names_of new; new = values_of new;
-      key = map (field_in old) (keys_of transform doc new); old = old_if_given doc old;
+      event = Update;
+      table = transform.target_table;
+      keys = keys_of transform doc new;
+      columns = names_of new;
+      new = values_of new;
+      key = map (field_in old) (keys_of transform doc new);
+      old = old_if_given doc old;
     }
 
 abbrev pub made_delete : Way → TransformDef → DocRow → DocRow
 made_delete way transform doc = let old = side_of way transform doc (old_side doc) in record {
-  event = Delete; table = transform.target_table; keys = keys_of transform doc old;
-  columns = names_of old; new = []; key = map (field_in old) (keys_of transform doc old);
+  event = Delete;
+  table = transform.target_table;
+  keys = keys_of transform doc old;
+  columns = names_of old;
+  new = [];
+  key = map (field_in old) (keys_of transform doc old);
   old = old_if_given doc old;
 }
 
@@ -62,12 +75,14 @@ marked_fields way transform doc =
     let old = side_of way transform doc (old_side doc) in
     let made = made_fields way (active_columns transform doc) (old_side doc) in
     made ++ map (λ (key : List ℕ). (key, field_in old key))
-        (remaining_keys transform.column_policy doc old (names_of made))
+    (remaining_keys transform.column_policy doc old (names_of made))
 
 abbrev pub made_mark : Way → TransformDef → DocRow → DocRow
 made_mark way transform doc = let fields = marked_fields way transform doc in
     record (made_delete way transform doc) {
-      event = Update; columns = names_of fields; new = values_of fields;
+      event = Update;
+      columns = names_of fields;
+      new = values_of fields;
       old = old_if_given doc fields;
     }
 

@@ -55,8 +55,8 @@ passed_fields way columns side =
 abbrev pub is_further : Side → TransformColumn → Bool
 is_further side column = not (is_among (names_of side.listed) column.target)
 
--- what the columns that take part make of a side: the listed columns alone; or the source's in their
--- places, and then the further ones
+-- what the columns that take part make of a side: the listed columns alone; or the source's in
+-- their places, and then the further ones
 abbrev pub made_side : Way → ColumnPolicy → List TransformColumn → Side → List (List ℕ × Field)
 made_side way Specified columns side = made_fields way columns side
 made_side way Implied columns side =

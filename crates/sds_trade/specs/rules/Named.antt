@@ -11,7 +11,7 @@ use Rattle.sds_types.specs.declared.row.TableRow.{TableRow}
 use Rattle.sds_types.specs.declared.trigger.TriggerDef.{TriggerDef}
 use Rattle.sds_types.specs.declared.trigger.TriggerRouterDef.{TriggerRouterDef}
 use Rattle.sds_trade.specs.rules.Places.{group_name}
-use Rattle.sds_trade.specs.rules.Routers.{says}
+use Rattle.sds_trade.specs.rules.Routers.{names_peer}
 
 -- a router leads from the node's group to the peer's
 abbrev pub leads_between : Config → Peer → Peer → RouterDef → Bool
@@ -22,7 +22,7 @@ leads_between config me peer router =
 -- a router at a node names a peer for a change, where certain rows stand
 abbrev pub names : Config → Peer → List TableRow → Change → Peer → RouterDef → Bool
 names config me rows change peer router =
-    leads_between config me peer router && says config.tables rows change peer router.parsed
+    leads_between config me peer router && names_peer config.tables rows change peer router.parsed
 
 -- the trigger stands on the table of a change
 abbrev pub is_on : Change → TriggerDef → Bool
@@ -39,7 +39,7 @@ abbrev pub sends_to : Config → Peer → List TableRow → Change → Peer → 
 sends_to config me rows change peer join = join.enabled
     && (option_map_or (is_on change) (slice_get config.triggers join.trigger) false
     && (option_map_or (names config me rows change peer)
-        (slice_get config.routers join.router) false
+    (slice_get config.routers join.router) false
     && (join.ping_back_enabled || not (came_from change peer))))
 
 -- a change at a node is for a peer: some trigger-router sends it there, and the peer isn't the node

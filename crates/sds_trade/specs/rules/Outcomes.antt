@@ -22,10 +22,10 @@ use Rattle.sds_types.specs.declared.way.Way.{Way}
 use Rattle.sds_trade.specs.rules.Captured.{overflows}
 use Rattle.sds_trade.specs.rules.LoadRows.{row_of}
 use Rattle.sds_trade.specs.rules.Places.{group_name}
-use Rattle.sds_trade.specs.rules.Resolutions.{resolved}
-use Rattle.sds_trade.specs.rules.Runs.{Ran, run}
-use Rattle.sds_trade.specs.rules.Runs.Ran.{Refused}
-use Rattle.sds_trade.specs.rules.Transforms.{shaped}
+use Rattle.sds_trade.specs.rules.Resolutions.{resolution_of}
+use Rattle.sds_trade.specs.rules.Runs.{RunEnd, run}
+use Rattle.sds_trade.specs.rules.Runs.RunEnd.{Refused}
+use Rattle.sds_trade.specs.rules.Transforms.{shaped_rows}
 
 -- PREPARED. A made row read for its table, or the number of its document's row with the rule that
 -- it breaks
@@ -40,7 +40,7 @@ reading_of config form number made =
 -- all rows that the rows of a batch become, in their order
 abbrev pub readings_of : Config → Way → BatchDoc → List (Result LoadRow (ℕ × Rule))
 readings_of config way doc = flat_map
-    (λ (at : ℕ × DocRow). map (reading_of config doc.binary at.0) (shaped config way at.1))
+    (λ (at : ℕ × DocRow). map (reading_of config doc.binary at.0) (shaped_rows config way at.1))
     (enumerate_from 1 doc.rows)
 
 -- the rows, or the first that breaks a rule
@@ -67,8 +67,8 @@ abbrev pub setting_place : Config → Way → ℕ → Option ℕ
 setting_place config way table = position (is_for_way config way table) config.conflicts
 
 -- a batch read for the tables of the node that it goes to
-abbrev pub prepared : Config → Way → BatchDoc → Prepared
-prepared config way doc = record {
+abbrev pub prepared_batch : Config → Way → BatchDoc → Prepared
+prepared_batch config way doc = record {
   from = way.source;
   from_group = way.source_group;
   channel = channel_place config doc.channel;
@@ -85,24 +85,24 @@ setting_for config batch table = option_and_then (slice_get config.conflicts)
 -- what a row of a batch asks for where certain rows stand
 abbrev pub batch_judge : Config → Prepared → List TableRow → LoadRow → Resolution
 batch_judge config batch rows row =
-    resolved config.tables (setting_for config batch row.table) rows row
+    resolution_of config.tables (setting_for config batch row.table) rows row
 
 -- a row goes by the number of its document's row
 abbrev pub with_number : LoadRow → ℕ × LoadRow
 with_number row = (row.row, row)
 
 -- how a load at a node of a group ends, where so many changes wait to be routed
-abbrev pub by_body : Config → List ℕ → ℕ → List TableRow → Prepared → Body → Ran
+abbrev pub by_body : Config → List ℕ → ℕ → List TableRow → Prepared → Body → RunEnd
 by_body config group waiting rows batch (body.Broken number rule) = Refused number rule
 by_body config group waiting rows batch (body.Rows made) =
     run config.tables (overflows config group true waiting) (batch_judge config batch)
-        rows (map with_number made)
+    rows (map with_number made)
 
-abbrev pub by_channel : Config → List ℕ → ℕ → List TableRow → Prepared → Option ℕ → Ran
+abbrev pub by_channel : Config → List ℕ → ℕ → List TableRow → Prepared → Option ℕ → RunEnd
 by_channel config group waiting rows batch None = Refused 0 UnknownChannel
 by_channel config group waiting rows batch (Some channel) =
     by_body config group waiting rows batch batch.body
 
-abbrev pub outcome : Config → List ℕ → ℕ → List TableRow → Prepared → Ran
-outcome config group waiting rows batch =
+abbrev pub outcome_of_batch : Config → List ℕ → ℕ → List TableRow → Prepared → RunEnd
+outcome_of_batch config group waiting rows batch =
     by_channel config group waiting rows batch batch.channel

@@ -23,7 +23,7 @@ use Rattle.sds_trade.specs.rules.Captured.{overflows}
 use Rattle.sds_trade.specs.rules.LoadRows.{row_of}
 use Rattle.sds_trade.specs.rules.Places.{columns_at, key_names, table_place}
 use Rattle.sds_trade.specs.rules.RowValues.{gives, new_value, new_key, inserted_row, updated_row}
-use Rattle.sds_trade.specs.rules.Runs.{Ran, run}
+use Rattle.sds_trade.specs.rules.Runs.{RunEnd, run}
 use Rattle.sds_trade.specs.rules.Tables.{is_null, has_row, row_at}
 
 -- the fields at even places, and so those at odd places of a list without its first
@@ -41,23 +41,38 @@ name_in (Text text) = text
 -- one for each key column, then pairs of a column's name and a value. A delete has the key alone
 abbrev pub own_doc : List (List ℕ) → List (List ℕ) → TxRow → Event → DocRow
 own_doc columns keys row Insert = record {
-  event = Insert; table = row.table; keys = keys; columns = columns;
-  new = row.fields; key = []; old = None;
+  event = Insert;
+  table = row.table;
+  keys = keys;
+  columns = columns;
+  new = row.fields;
+  key = [];
+  old = None;
 }
 own_doc columns keys row Update = let pairs = drop (length keys) row.fields in record {
-  event = Update; table = row.table; keys = keys; columns = map name_in (every_other pairs);
-  new = every_other (drop 1 pairs); key = take (length keys) row.fields; old = None;
+  event = Update;
+  table = row.table;
+  keys = keys;
+  columns = map name_in (every_other pairs);
+  new = every_other (drop 1 pairs);
+  key = take (length keys) row.fields;
+  old = None;
 }
 own_doc columns keys row Delete = record {
-  event = Delete; table = row.table; keys = keys; columns = [];
-  new = []; key = row.fields; old = None;
+  event = Delete;
+  table = row.table;
+  keys = keys;
+  columns = [];
+  new = [];
+  key = row.fields;
+  old = None;
 }
 
 abbrev pub doc_of : List TableDef → TxRow → DocRow
 doc_of defs row =
     let table = unwrap_or (table_place defs row.table) (length defs) in
     own_doc (map (λ (column : ColumnDef). column.name) (columns_at defs table))
-        (key_names defs table) row row.event
+    (key_names defs table) row row.event
 
 -- an update that names no row: of it a null that a column doesn't allow comes first, then a new key
 -- that another row has, and then that the row is missing
@@ -73,12 +88,13 @@ unseen_breaks defs rows row other = false
 abbrev pub unseen_update : List TableDef → List TableRow → LoadRow → Rule
 unseen_update defs rows row =
     unwrap_or (find (unseen_breaks defs rows row) (NullNotAllowed ∷ (DuplicateKey ∷ [])))
-        RowMissing
+    RowMissing
 
 -- the update of a row that stands, or that doesn't
 abbrev pub own_update : List TableDef → List TableRow → LoadRow → Option Row → Resolution
 own_update defs rows row None = Broken (unseen_update defs rows row)
-own_update defs rows row (Some kept) = Apply (step.Update row.table row.key (updated_row defs row kept))
+own_update defs rows row (Some kept) =
+    Apply (step.Update row.table row.key (updated_row defs row kept))
 
 abbrev pub own_step : List TableDef → List TableRow → LoadRow → Event → Resolution
 own_step defs rows row Insert = Apply (step.Insert row.table (inserted_row defs row))
@@ -94,7 +110,7 @@ abbrev pub own_judge : List TableDef → List TableRow → TxRow → Resolution
 own_judge defs rows row = by_texts defs rows (row_of defs Base64 0 (doc_of defs row) [])
 
 -- how an own write at a node of a group ends, where so many changes wait to be routed
-abbrev pub written : Config → List ℕ → ℕ → List TableRow → List TxRow → Ran
-written config group waiting rows tx =
+abbrev pub outcome_of_write : Config → List ℕ → ℕ → List TableRow → List TxRow → RunEnd
+outcome_of_write config group waiting rows tx =
     run config.tables (overflows config group false waiting) (own_judge config.tables)
-        rows (enumerate_from 1 tx)
+    rows (enumerate_from 1 tx)

@@ -26,16 +26,16 @@ use Rattle.sds_trade.specs.rules.RowValues.{gives, new_value, old_value, sums_fi
 use Rattle.sds_trade.specs.rules.Tables.{value_at, row_at}
 
 -- a step is made where the sums on the values that it begins with have 64 bits
-abbrev pub applied : Bool → RowStep → Resolution
-applied true made = Apply made
-applied false made = Broken SumOutOfRange
+abbrev pub step_if : Bool → RowStep → Resolution
+step_if true made = Apply made
+step_if false made = Broken SumOutOfRange
 
 abbrev pub insert_of : List TableDef → LoadRow → Resolution
-insert_of defs row = applied (sums_fit row (key_alone defs row))
+insert_of defs row = step_if (sums_fit row (key_alone defs row))
     (step.Insert row.table (inserted_row defs row))
 
 abbrev pub update_of : List TableDef → LoadRow → Key → Row → Resolution
-update_of defs row key kept = applied (sums_fit row kept.0)
+update_of defs row key kept = step_if (sums_fit row kept.0)
     (step.Update row.table key (updated_row defs row kept))
 
 -- FALLBACK: the row is made to stand. An insert updates a row of its key that stands
@@ -78,28 +78,29 @@ by_newer defs rows row kept (Some incoming) =
     elim (is_gt (value_order incoming kept)) [ true ↦ fallback defs rows row | false ↦ SkipRow ]
 
 -- the greater value wins, and a tie skips the row; where no row stands there is nothing to compare
-abbrev pub newer : List TableDef → List TableRow → LoadRow → Option ℕ → Option Row → Resolution
-newer defs rows row column None = fallback defs rows row
-newer defs rows row None (Some kept) = Broken OldMissing
-newer defs rows row (Some column) (Some kept) =
+abbrev pub by_newer_value : List TableDef → List TableRow → LoadRow → Option ℕ → Option Row
+    → Resolution
+by_newer_value defs rows row column None = fallback defs rows row
+by_newer_value defs rows row None (Some kept) = Broken OldMissing
+by_newer_value defs rows row (Some column) (Some kept) =
     by_newer defs rows row (value_at kept.0 column) (incoming_value row column)
 
-abbrev pub ignored : Bool → Resolution
-ignored true = SkipRow
-ignored false = SkipBatch
+abbrev pub skip_of : Bool → Resolution
+skip_of true = SkipRow
+skip_of false = SkipBatch
 
 -- a conflict, by its resolution; without a setting it falls back
-abbrev pub settled : List TableDef → List TableRow → LoadRow → ConflictDef → ResolveType
+abbrev pub by_resolve_type : List TableDef → List TableRow → LoadRow → ConflictDef → ResolveType
     → Resolution
-settled defs rows row def Fallback = fallback defs rows row
-settled defs rows row def Ignore = ignored def.resolve_row_only
-settled defs rows row def Manual = Broken ManualConflict
-settled defs rows row def NewerWins =
-    newer defs rows row def.detect_expression (target_row defs rows row)
+by_resolve_type defs rows row def Fallback = fallback defs rows row
+by_resolve_type defs rows row def Ignore = skip_of def.resolve_row_only
+by_resolve_type defs rows row def Manual = Broken ManualConflict
+by_resolve_type defs rows row def NewerWins =
+    by_newer_value defs rows row def.detect_expression (target_row defs rows row)
 
 abbrev pub by_setting : List TableDef → List TableRow → LoadRow → Option ConflictDef → Resolution
 by_setting defs rows row None = fallback defs rows row
-by_setting defs rows row (Some def) = settled defs rows row def def.resolve_type
+by_setting defs rows row (Some def) = by_resolve_type defs rows row def def.resolve_type
 
 abbrev pub by_verdict : List TableDef → List TableRow → LoadRow → Option ConflictDef → Verdict
     → Resolution
@@ -112,8 +113,8 @@ abbrev pub lacks_addend : LoadRow → Bool
 lacks_addend row = list_any (λ (addend : Addend). is_none addend.add) row.adds
 
 -- what is to be done with a row under a setting
-abbrev pub resolved : List TableDef → Option ConflictDef → List TableRow → LoadRow → Resolution
-resolved defs setting rows row = elim (lacks_addend row) [
+abbrev pub resolution_of : List TableDef → Option ConflictDef → List TableRow → LoadRow → Resolution
+resolution_of defs setting rows row = elim (lacks_addend row) [
   | true ↦ Broken OldMissing
   | false ↦ by_verdict defs rows row setting (verdict setting row (target_row defs rows row))
 ]

@@ -47,7 +47,7 @@ test_holds defs change peer test =
 abbrev pub is_found : List TableDef → Change → Peer → Lookup → ℕ → TableRow → Bool
 is_found defs change peer lookup table row = row.table == table
     && (are_one_text (text_in (columns_at defs table) lookup.lookup_column row.row)
-        (current_text defs change lookup.column)
+    (current_text defs change lookup.column)
     && is_text (text_in (columns_at defs table) lookup.external_id row.row) peer.external)
 
 abbrev pub finds : List TableDef → List TableRow → Change → Peer → Lookup → Bool
@@ -63,7 +63,7 @@ compared_text defs change (compared.Text text) = Some text
 abbrev pub meets : List TableDef → Change → TableRow → Condition → Bool
 meets defs change row condition =
     are_one_text (text_in (columns_at defs row.table) condition.column row.row)
-        (compared_text defs change condition.value)
+    (compared_text defs change condition.value)
 
 abbrev pub node_text : Peer → NodeColumn → List ℕ
 node_text peer ExternalId = peer.external
@@ -81,8 +81,8 @@ chooses defs rows change peer choice =
     (table_place defs choice.table) false
 
 -- an expression names a peer for a change
-abbrev pub says : List TableDef → List TableRow → Change → Peer → RouterExpression → Bool
-says defs rows change peer Everything = true
-says defs rows change peer (Tests tests) = list_any (test_holds defs change peer) tests
-says defs rows change peer (Finds lookup) = finds defs rows change peer lookup
-says defs rows change peer (Chooses choice) = chooses defs rows change peer choice
+abbrev pub names_peer : List TableDef → List TableRow → Change → Peer → RouterExpression → Bool
+names_peer defs rows change peer Everything = true
+names_peer defs rows change peer (Tests tests) = list_any (test_holds defs change peer) tests
+names_peer defs rows change peer (Finds lookup) = finds defs rows change peer lookup
+names_peer defs rows change peer (Chooses choice) = chooses defs rows change peer choice

@@ -35,17 +35,17 @@ abbrev pub old_value : LoadRow → List Value → ℕ → Value
 old_value row old column = value_for (zip row.columns old) column
 
 -- SUMS. What a row adds to a column, and the sum where a value stands
-abbrev pub added : LoadRow → ℕ → ℤ
-added row column = unwrap_or (option_and_then (λ (addend : Addend). addend.add)
+abbrev pub addition_to : LoadRow → ℕ → ℤ
+addition_to row column = unwrap_or (option_and_then (λ (addend : Addend). addend.add)
     (find (λ (addend : Addend). addend.column == column) row.adds)) (pos 0)
 
 abbrev pub sum_at : LoadRow → ℕ → Value → ℤ
-sum_at row column kept = units_of kept +ℤ added row column
+sum_at row column kept = units_of kept +ℤ addition_to row column
 
 -- the sum as a value; only an INTEGER or a DECIMAL is added to
-abbrev pub number_of : Kind → ℤ → Value
-number_of (kind.Decimal digits) sum = value.Decimal sum
-number_of other sum = value.Integer sum
+abbrev pub sum_value : Kind → ℤ → Value
+sum_value (kind.Decimal digits) sum = value.Decimal sum
+sum_value other sum = value.Integer sum
 
 -- each sum on these values has 64 bits with a sign
 abbrev pub sums_fit : LoadRow → List Value → Bool
@@ -55,7 +55,7 @@ sums_fit row values = list_all (λ (addend : Addend).
 -- ROWS. The value at a place where a value stands: the given one, the sum, or the one that stands
 abbrev pub put_value : LoadRow → (ℕ × ColumnDef) → Value → Value
 put_value row at kept = if gives row at.0 then new_value row at.0
-    else (if is_added row at.0 then number_of at.1.kind (sum_at row at.0 kept) else kept)
+    else (if is_added row at.0 then sum_value at.1.kind (sum_at row at.0 kept) else kept)
 
 abbrev pub put_values : List TableDef → LoadRow → List Value → Row
 put_values defs row values = record {
@@ -73,7 +73,7 @@ new_key defs row = record { 0 = map (given_or row) (zip (key_places defs row.tab
 -- the values that an insert begins with: null but for its key
 abbrev pub key_alone : List TableDef → LoadRow → List Value
 key_alone defs row = map (λ (at : ℕ × ColumnDef).
-        value_for (zip (key_places defs row.table) (new_key defs row).0) at.0)
+    value_for (zip (key_places defs row.table) (new_key defs row).0) at.0)
     (enumerate_from 0 (columns_at defs row.table))
 
 -- the row that is inserted: columns that it doesn't give are null, but for its key

@@ -15,7 +15,7 @@ use Rattle.sds_types.specs.declared.rule.Rule.{Rule}
 use Rattle.sds_types.specs.declared.rule.Rule.TheVariants.{NullNotAllowed, DuplicateKey, RowMissing, MissingParent, HasChildren, TableFull}
 use Rattle.sds_trade.specs.rules.Places.{columns_at}
 use Rattle.sds_trade.specs.rules.Tables.{is_null, key_of, has_row, finds_parents, refers_to}
-use Rattle.sds_trade.specs.rules.Steps.{table_of, new_row, old_key, other_rows, after}
+use Rattle.sds_trade.specs.rules.Steps.{table_of, new_row, old_key, other_rows, rows_after}
 
 -- a column that doesn't allow null would be null
 abbrev pub has_null : List ColumnDef → Row → Bool
@@ -43,14 +43,14 @@ misses_row defs rows step =
 abbrev pub misses_parent : List TableDef → List TableRow → RowStep → Bool
 misses_parent defs rows step =
     option_map_or
-    (λ (row : Row). not (finds_parents defs (after defs rows step) (table_of step) row))
+    (λ (row : Row). not (finds_parents defs (rows_after defs rows step) (table_of step) row))
     (new_row step) false
 
 -- after the step another row refers to the old key, and no row has it
 abbrev pub is_orphaning : List TableDef → List TableRow → RowStep → Key → Bool
 is_orphaning defs rows step key =
     list_any (refers_to defs (table_of step) key) (other_rows defs rows step)
-    && not (has_row defs (after defs rows step) (table_of step) key)
+    && not (has_row defs (rows_after defs rows step) (table_of step) key)
 
 abbrev pub leaves_children : List TableDef → List TableRow → RowStep → Bool
 leaves_children defs rows step =
@@ -78,5 +78,5 @@ step_rules = NullNotAllowed ∷ (DuplicateKey ∷ (RowMissing
     ∷ (MissingParent ∷ (HasChildren ∷ (TableFull ∷ [])))))
 
 -- the first rule that a step breaks, and none where it breaks none
-abbrev pub broken : List TableDef → List TableRow → RowStep → Option Rule
-broken defs rows step = find (step_breaks defs rows step) step_rules
+abbrev pub broken_rule : List TableDef → List TableRow → RowStep → Option Rule
+broken_rule defs rows step = find (step_breaks defs rows step) step_rules

@@ -55,5 +55,5 @@ abbrev pub with_new : List TableDef → List TableRow → ℕ → Option Row →
 with_new defs rows table None = rows
 with_new defs rows table (Some row) = with_row defs rows (record { table = table; row = row })
 
-abbrev pub after : List TableDef → List TableRow → RowStep → List TableRow
-after defs rows step = with_new defs (other_rows defs rows step) (table_of step) (new_row step)
+abbrev pub rows_after : List TableDef → List TableRow → RowStep → List TableRow
+rows_after defs rows step = with_new defs (other_rows defs rows step) (table_of step) (new_row step)

@@ -57,5 +57,5 @@ text_breaks defs form doc other = false
 abbrev pub text_rules : List Rule
 text_rules = UnknownTable ∷ (UnknownColumn ∷ (MissingKey ∷ (BadValue ∷ (TooLong ∷ []))))
 
-abbrev pub broken_text : List TableDef → Binary → DocRow → Option Rule
-broken_text defs form doc = find (text_breaks defs form doc) text_rules
+abbrev pub broken_text_rule : List TableDef → Binary → DocRow → Option Rule
+broken_text_rule defs form doc = find (text_breaks defs form doc) text_rules

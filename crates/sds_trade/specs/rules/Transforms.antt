@@ -61,15 +61,15 @@ by_transforms defs way doc [] = record { row = doc; adds = [] } ∷ []
 by_transforms defs way doc (transform ∷ transforms) =
     flat_map (shaped_by defs way doc) (transform ∷ transforms)
 
-abbrev pub transformed : Config → Way → Point → DocRow → List Shaped
-transformed config way point doc =
+abbrev pub transformed_rows : Config → Way → Point → DocRow → List Shaped
+transformed_rows config way point doc =
     by_transforms config.tables way doc (transforms_for config way point doc.table)
 
 -- the rows that a change becomes as its batch is written
-abbrev pub extracted : Config → Way → Change → List DocRow
-extracted config way change = map (λ (shaped : Shaped). shaped.row)
-    (transformed config way Extract (doc_of_change config.tables change))
+abbrev pub extracted_rows : Config → Way → Change → List DocRow
+extracted_rows config way change = map (λ (made : Shaped). made.row)
+    (transformed_rows config way Extract (doc_of_change config.tables change))
 
 -- the rows that a row becomes as its batch is loaded
-abbrev pub shaped : Config → Way → DocRow → List Shaped
-shaped config way doc = transformed config way Load doc
+abbrev pub shaped_rows : Config → Way → DocRow → List Shaped
+shaped_rows config way doc = transformed_rows config way Load doc

@@ -38,7 +38,7 @@ pub record IsConflict (config : Config) (conflict : ConflictDef) : Type 0 where
   pub table : conflict.target_table < length config.tables
   pub column : NamesWell (columns_at config.tables conflict.target_table)
       conflict.detect_type conflict.detect_expression
-  pub newer : conflict.resolve_type ≡ NewerWins → names_column conflict.detect_type ≡ true
+  pub by_newer_value : conflict.resolve_type ≡ NewerWins → names_column conflict.detect_type ≡ true
 
 -- two are for one table between the same two groups
 abbrev pub settle_alike : ConflictDef → ConflictDef → Bool
