@@ -1,0 +1,59 @@
+-- Worked cases: which batches a routing run makes of a change.
+use Rattle.std.specs.Prelude.{◌≡◌, ℕ, true, false, List, [], ◌∷◌, map, length, codes, Option, None, Some}
+use Rattle.sds_value.specs.declared.row.Event.TheVariants.{Insert}
+use Rattle.sds_types.specs.declared.batch.NewBatch.{NewBatch}
+use Rattle.sds_types.specs.declared.config.Config.{Config}
+use Rattle.sds_types.specs.declared.row.Change.{Change}
+use Rattle.sds_trade.specs.rules.Batches.{batches_of, routed_changes}
+use Rattle.sds_trade.specs.worked.Entries.{default_router, join_of, number}
+use Rattle.sds_trade.specs.worked.Tiers.{tiers_with, region, region_peers}
+
+-- a change of the stock that a batch brought, or an own one
+abbrev pub stock_change : Option (List ℕ) → Change
+stock_change source = record {
+  id = 1;
+  tx = 1;
+  table = 0;
+  event = Insert;
+  new = Some (record { 0 = number 1 ∷ (number 5 ∷ []) });
+  old = None;
+  channel = 0;
+  source = source;
+}
+
+-- what a routing run at the region makes of it: the number, and the place of the peer
+abbrev pub batches_with : Config → Option (List ℕ) → List (ℕ × ℕ)
+batches_with config source = map (λ (batch : NewBatch). (batch.id, batch.peer))
+    (batches_of config (length region_peers) 1
+    (routed_changes config region [] region_peers (stock_change source ∷ [])))
+
+-- an own change of the region is for corp and both stores
+abbrev pub OwnGoesToAll : Type 0
+OwnGoesToAll = batches_with (tiers_with false) None ≡ (1, 0) ∷ ((2, 1) ∷ ((3, 2) ∷ []))
+
+-- a change from a store is for corp and the other store; and for that store too, where it may go
+-- back
+abbrev pub NoPingBack : Type 0
+NoPingBack = batches_with (tiers_with false) (Some (codes "s1")) ≡ (1, 0) ∷ ((2, 2) ∷ [])
+
+abbrev pub PingBack : Type 0
+PingBack = batches_with (tiers_with true) (Some (codes "s1")) ≡ (1, 0) ∷ ((2, 1) ∷ ((3, 2) ∷ []))
+
+-- two trigger-routers name the same peers, which have the change once; a disabled one names none
+abbrev pub tiers_twice : Config
+tiers_twice = record (tiers_with false) {
+  routers = default_router (codes "rs") 1 2 ∷ (default_router (codes "again") 1 2 ∷ []);
+  trigger_routers = join_of 0 0 ∷ (join_of 0 1 ∷ []);
+}
+
+abbrev pub NamedOnce : Type 0
+NamedOnce = batches_with tiers_twice None ≡ (1, 1) ∷ ((2, 2) ∷ [])
+
+abbrev pub DisabledNamesNone : Type 0
+DisabledNamesNone = batches_with (record (tiers_with false) {
+  trigger_routers = record (join_of 0 1) { enabled = false } ∷ [];
+}) None ≡ []
+
+-- a change that is for nobody stands in no batch
+abbrev pub NobodyIsNamed : Type 0
+NobodyIsNamed = batches_of (tiers_with false) 3 1 ((stock_change None, []) ∷ []) ≡ []
