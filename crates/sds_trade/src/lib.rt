@@ -3,3 +3,11 @@
 //! where batches end, what transforms make of a row, how conflicts are seen and resolved, and what
 //! a batch does. They stand in `specs/rules`. The code is empty but for their laws.
 #![tactic(auto)]
+
+mod worked;
+
+pub use worked::{
+    batches_are_refused, batches_end_by_algorithm, batches_go_to_peers, columns_are_made,
+    conflicts_are_resolved, counts_are_added, first_rule_answers, limits_refuse, rows_name_stores,
+    tests_name_stores, writes_break_keys_and_references, writes_break_rules_on_texts,
+};

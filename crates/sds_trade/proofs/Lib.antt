@@ -1,0 +1,9 @@
+pub mod CuttingComputed
+pub mod ColumnsComputed
+pub mod WritesComputed
+pub mod LimitsComputed
+pub mod NamingComputed
+pub mod RoutingComputed
+pub mod LoadingComputed
+pub mod ResolvingComputed
+pub mod RowLimit

@@ -1,0 +1,111 @@
+//! Worked cases of the rules, each computed from the definitions.
+ghost use Rattle.sds_trade.specs.worked.Columns.{Substrings, Lefts, Maps, OfNull};
+ghost use Rattle.sds_trade.specs.worked.Cutting.{WholeTransactions, FullBatches, EachTransaction, NothingIsCut};
+ghost use Rattle.sds_trade.specs.worked.Limits.{FullRefuses, NearlyFullTakes, CaptureIsFull, UncapturedIsTaken};
+ghost use Rattle.sds_trade.specs.worked.Loading.{CountIsAdded, SumIsTooGreat, LessIsAdded, OldIsNeeded, ChannelIsUnknown, TextsComeFirst, ParentIsMissing};
+ghost use Rattle.sds_trade.specs.worked.Naming.{MovesToNew, MovesFromOld, DeleteLooksBack, InsertHasNoOld, WordsAreApart, LookupDecides, ChoiceDecides};
+ghost use Rattle.sds_trade.specs.worked.Resolving.{RowIsSkipped, BatchIsIgnored, ManualIsRefused, TieIsSkipped, NewerIsApplied};
+ghost use Rattle.sds_trade.specs.worked.Routing.{OwnGoesToAll, NoPingBack, PingBack, NamedOnce, DisabledNamesNone, NobodyIsNamed};
+ghost use Rattle.sds_trade.specs.worked.Writes.{SecondKey, LostUpdate, SaleOfNothing, DeleteOfSold, SoldKeepsKey, KeyChanges, NullName, BadKey, ShortRow, NoTable, NullKey, SecondRow, FirstOfTwo, MissingGivesNull, MissingTakesKey, KeyBecomesNull};
+
+/// Batches of transactions of two, three and one changes, by each algorithm; and of no change.
+pub fn batches_end_by_algorithm()
+    ensures whole { WholeTransactions }
+    ensures full { FullBatches }
+    ensures each { EachTransaction }
+    ensures nothing { NothingIsCut }
+{}
+
+/// What `substr`, `left` and `valueMap` make of a text, and each function of null.
+pub fn columns_are_made()
+    ensures substr { Substrings }
+    ensures left { Lefts }
+    ensures map { Maps }
+    ensures null { OfNull }
+{}
+
+/// Own writes that a key or a reference refuses, each by its rule; and an item's new key.
+pub fn writes_break_keys_and_references()
+    ensures second { SecondKey }
+    ensures lost { LostUpdate }
+    ensures parent { SaleOfNothing }
+    ensures children { DeleteOfSold }
+    ensures kept { SoldKeepsKey }
+    ensures moved { KeyChanges }
+{}
+
+/// Own writes whose texts are refused, each by its rule.
+pub fn writes_break_rules_on_texts()
+    ensures null { NullName }
+    ensures bad { BadKey }
+    ensures short { ShortRow }
+    ensures table { NoTable }
+    ensures key { NullKey }
+{}
+
+/// The first row that breaks a rule is answered, by the first rule that it breaks; an update that names
+/// no row is judged by what it gives.
+pub fn first_rule_answers()
+    ensures row { SecondRow }
+    ensures rule { FirstOfTwo }
+    ensures gives_null { MissingGivesNull }
+    ensures takes_key { MissingTakesKey }
+    ensures null_key { KeyBecomesNull }
+{}
+
+/// A node that has all the rows it may have takes no more, and where too many changes wait only what isn't captured.
+pub fn limits_refuse()
+    ensures full { FullRefuses }
+    ensures nearly { NearlyFullTakes }
+    ensures capture { CaptureIsFull }
+    ensures uncaptured { UncapturedIsTaken }
+{}
+
+/// Whom the tests of a `column` router name, for each event.
+pub fn tests_name_stores()
+    ensures new { MovesToNew }
+    ensures old { MovesFromOld }
+    ensures delete { DeleteLooksBack }
+    ensures insert { InsertHasNoOld }
+    ensures words { WordsAreApart }
+{}
+
+/// A row of another table decides whom a change is for, as it stands when the change is routed.
+pub fn rows_name_stores()
+    ensures lookup { LookupDecides }
+    ensures choice { ChoiceDecides }
+{}
+
+/// The batches that a routing run makes of a change, in three tiers.
+pub fn batches_go_to_peers()
+    ensures own { OwnGoesToAll }
+    ensures brought { NoPingBack }
+    ensures back { PingBack }
+    ensures once { NamedOnce }
+    ensures disabled { DisabledNamesNone }
+    ensures nobody { NobodyIsNamed }
+{}
+
+/// Counts that are added to those that stand.
+pub fn counts_are_added()
+    ensures added { CountIsAdded }
+    ensures great { SumIsTooGreat }
+    ensures less { LessIsAdded }
+    ensures old { OldIsNeeded }
+{}
+
+/// Batches that are refused, by their channel or by a row.
+pub fn batches_are_refused()
+    ensures channel { ChannelIsUnknown }
+    ensures texts { TextsComeFirst }
+    ensures parent { ParentIsMissing }
+{}
+
+/// Conflicts, by each resolution.
+pub fn conflicts_are_resolved()
+    ensures row { RowIsSkipped }
+    ensures batch { BatchIsIgnored }
+    ensures manual { ManualIsRefused }
+    ensures tie { TieIsSkipped }
+    ensures newer { NewerIsApplied }
+{}
