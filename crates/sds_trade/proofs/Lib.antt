@@ -7,3 +7,9 @@ pub mod RoutingComputed
 pub mod LoadingComputed
 pub mod ResolvingComputed
 pub mod RowLimit
+pub mod Lists
+pub mod TableLaws
+pub mod RuleLaws
+pub mod ChangeLaws
+pub mod PlainRows
+pub mod RunLaws

@@ -4,8 +4,13 @@
 //! a batch does. They stand in `specs/rules`. The code is empty but for their laws.
 #![tactic(auto)]
 
+mod laws;
 mod worked;
 
+pub use laws::{
+    captured_changes_are_numbered, first_rules_answer, keys_stay_apart, peers_are_named_once,
+    plain_rows_pass, refusals_leave_tables,
+};
 pub use worked::{
     batches_are_refused, batches_end_by_algorithm, batches_go_to_peers, columns_are_made,
     conflicts_are_resolved, counts_are_added, first_rule_answers, limits_refuse, rows_name_stores,

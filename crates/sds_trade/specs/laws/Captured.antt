@@ -11,11 +11,11 @@ UncapturedUsesNoNumber = (config : Config) (group : List ℕ) (first tx : ℕ)
     (source : Option (List ℕ)) (earlier later : List Done) (done : Done)
     → captured_channel config group (is_some source) done.step ≡ None
     → changes_of config group first tx source (earlier ++ done ∷ later)
-        ≡ changes_of config group first tx source (earlier ++ later)
+    ≡ changes_of config group first tx source (earlier ++ later)
 
 -- the numbers of a transaction's changes are consecutive
 abbrev pub NumbersAreConsecutive : Type 0
 NumbersAreConsecutive = (config : Config) (group : List ℕ) (first tx : ℕ)
     (source : Option (List ℕ)) (dones : List Done)
     → map (λ (change : Change). change.id) (changes_of config group first tx source dones)
-        ≡ range_with_len first (length (changes_of config group first tx source dones))
+    ≡ range_with_len first (length (changes_of config group first tx source dones))

@@ -1,0 +1,45 @@
+//! The laws of the rules.
+ghost use Rattle.sds_trade.specs.laws.Captured.{NumbersAreConsecutive, UncapturedUsesNoNumber};
+ghost use Rattle.sds_trade.specs.laws.Named.{PeersAreNamedOnce};
+ghost use Rattle.sds_trade.specs.laws.Rules.{FirstStepRuleAnswers, AnsweredStepRuleIsBroken, FirstTextRuleAnswers, AnsweredTextRuleIsBroken};
+ghost use Rattle.sds_trade.specs.laws.Runs.{IgnoredBatchLeavesTables, RefusedBatchLeavesTables, RefusedWriteLeavesTables};
+ghost use Rattle.sds_trade.specs.laws.Tables.{AscendingKeysAreApart, StepsKeepOrder};
+ghost use Rattle.sds_trade.specs.laws.Transforms.{PlainChangesAreExtracted, PlainRowsAreShaped};
+
+/// After every step the rows ascend by table and key, and so no two rows of one table have one key.
+pub fn keys_stay_apart()
+    ensures order { StepsKeepOrder }
+    ensures apart { AscendingKeysAreApart }
+{}
+
+/// A row that breaks two rules is answered by the one of the lower number, which it does break.
+pub fn first_rules_answer()
+    ensures step { FirstStepRuleAnswers }
+    ensures step_broken { AnsweredStepRuleIsBroken }
+    ensures text { FirstTextRuleAnswers }
+    ensures text_broken { AnsweredTextRuleIsBroken }
+{}
+
+/// A refused write, a refused batch and an ignored batch leave the tables as they were.
+pub fn refusals_leave_tables()
+    ensures write { RefusedWriteLeavesTables }
+    ensures batch { RefusedBatchLeavesTables }
+    ensures ignored { IgnoredBatchLeavesTables }
+{}
+
+/// The changes of a transaction have consecutive numbers, and a step that isn't captured uses none.
+pub fn captured_changes_are_numbered()
+    ensures none { UncapturedUsesNoNumber }
+    ensures consecutive { NumbersAreConsecutive }
+{}
+
+/// A change names each peer at most once.
+pub fn peers_are_named_once()
+    ensures { PeersAreNamedOnce }
+{}
+
+/// Where no transform is for it, a row is written and loaded as it is.
+pub fn plain_rows_pass()
+    ensures extracted { PlainChangesAreExtracted }
+    ensures shaped { PlainRowsAreShaped }
+{}
