@@ -13,3 +13,6 @@ pub mod RuleLaws
 pub mod ChangeLaws
 pub mod PlainRows
 pub mod RunLaws
+pub mod ReferenceLaws
+pub mod StepsKeep
+pub mod RunKeeps

@@ -2,14 +2,28 @@
 ghost use Rattle.sds_trade.specs.laws.Captured.{NumbersAreConsecutive, UncapturedUsesNoNumber};
 ghost use Rattle.sds_trade.specs.laws.Named.{PeersAreNamedOnce};
 ghost use Rattle.sds_trade.specs.laws.Rules.{FirstStepRuleAnswers, AnsweredStepRuleIsBroken, FirstTextRuleAnswers, AnsweredTextRuleIsBroken};
-ghost use Rattle.sds_trade.specs.laws.Runs.{IgnoredBatchLeavesTables, RefusedBatchLeavesTables, RefusedWriteLeavesTables};
-ghost use Rattle.sds_trade.specs.laws.Tables.{AscendingKeysAreApart, StepsKeepOrder};
+ghost use Rattle.sds_trade.specs.laws.Runs.{BatchesGoByStep, BatchesKeepTables, IgnoredBatchLeavesTables, RefusedBatchLeavesTables, RefusedWriteLeavesTables, WritesGoByStep, WritesKeepTables};
+ghost use Rattle.sds_trade.specs.laws.Tables.{AscendingKeysAreApart, StepsKeepOrder, StepsKeepReferences};
 ghost use Rattle.sds_trade.specs.laws.Transforms.{PlainChangesAreExtracted, PlainRowsAreShaped};
 
 /// After every step the rows ascend by table and key, and so no two rows of one table have one key.
 pub fn keys_stay_apart()
     ensures order { StepsKeepOrder }
     ensures apart { AscendingKeysAreApart }
+{}
+
+/// After every step that breaks no rule each reference is the key of a row that stands; and where the
+/// rows ascend and references hold, they do so after each write and each batch that is accepted.
+pub fn references_hold()
+    ensures step { StepsKeepReferences }
+    ensures write { WritesKeepTables }
+    ensures batch { BatchesKeepTables }
+{}
+
+/// The tables after an accepted write or batch are those that its steps make, one after another.
+pub fn tables_go_by_step()
+    ensures write { WritesGoByStep }
+    ensures batch { BatchesGoByStep }
 {}
 
 /// A row that breaks two rules is answered by the one of the lower number, which it does break.
