@@ -16,3 +16,5 @@ pub mod RunLaws
 pub mod ReferenceLaws
 pub mod StepsKeep
 pub mod RunKeeps
+pub mod CutLaw
+pub mod CutOnly

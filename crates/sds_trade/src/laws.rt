@@ -1,5 +1,6 @@
 //! The laws of the rules.
 ghost use Rattle.sds_trade.specs.laws.Captured.{NumbersAreConsecutive, UncapturedUsesNoNumber};
+ghost use Rattle.sds_trade.specs.laws.Cuts.{ChangesHaveOneCut, CutIsACut};
 ghost use Rattle.sds_trade.specs.laws.Named.{PeersAreNamedOnce};
 ghost use Rattle.sds_trade.specs.laws.Rules.{FirstStepRuleAnswers, AnsweredStepRuleIsBroken, FirstTextRuleAnswers, AnsweredTextRuleIsBroken};
 ghost use Rattle.sds_trade.specs.laws.Runs.{BatchesGoByStep, BatchesKeepTables, IgnoredBatchLeavesTables, RefusedBatchLeavesTables, RefusedWriteLeavesTables, WritesGoByStep, WritesKeepTables};
@@ -56,4 +57,11 @@ pub fn peers_are_named_once()
 pub fn plain_rows_pass()
     ensures extracted { PlainChangesAreExtracted }
     ensures shaped { PlainRowsAreShaped }
+{}
+
+/// By each algorithm the pieces that changes are cut into join to the changes and are a cut of them, and
+/// there is no other cut.
+pub fn changes_are_cut_once()
+    ensures cut { CutIsACut }
+    ensures only { ChangesHaveOneCut }
 {}
