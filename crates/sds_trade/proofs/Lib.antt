@@ -6,6 +6,11 @@ pub mod NamingComputed
 pub mod RoutingComputed
 pub mod LoadingComputed
 pub mod ResolvingComputed
+pub mod TextsComputed
+pub mod CapturingComputed
+pub mod PoliciesComputed
+pub mod DetectingComputed
+pub mod FallingComputed
 pub mod RowLimit
 pub mod Lists
 pub mod TableLaws

@@ -4,9 +4,16 @@ pub mod Shop
 pub mod Tiers
 pub mod Writes
 pub mod Limits
+pub mod Texts
+pub mod Capturing
 pub mod Cutting
 pub mod Naming
 pub mod Routing
 pub mod Columns
+pub mod Transforming
+pub mod Policies
 pub mod Loading
 pub mod Resolving
+pub mod Versions
+pub mod Detecting
+pub mod Falling

@@ -13,8 +13,8 @@ pub fn keys_stay_apart()
     ensures apart { AscendingKeysAreApart }
 {}
 
-/// After every step that breaks no rule each reference is the key of a row that stands; and where the
-/// rows ascend and references hold, they do so after each write and each batch that is accepted.
+/// After every step that breaks no rule each reference is the key of a row that stands; and where
+/// the rows ascend and references hold, they do so after each write and batch that is accepted.
 pub fn references_hold()
     ensures step { StepsKeepReferences }
     ensures write { WritesKeepTables }
@@ -59,8 +59,8 @@ pub fn plain_rows_pass()
     ensures shaped { PlainRowsAreShaped }
 {}
 
-/// By each algorithm the pieces that changes are cut into join to the changes and are a cut of them, and
-/// there is no other cut.
+/// By each algorithm the pieces that changes are cut into join to the changes and are a cut of
+/// them, and there is no other cut.
 pub fn changes_are_cut_once()
     ensures cut { CutIsACut }
     ensures only { ChangesHaveOneCut }

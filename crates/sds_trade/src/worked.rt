@@ -1,11 +1,16 @@
 //! Worked cases of the rules, each computed from the definitions.
+ghost use Rattle.sds_trade.specs.worked.Capturing.{GroupsCapture, EventsCapture, ChangesAreNumbered};
 ghost use Rattle.sds_trade.specs.worked.Columns.{Substrings, Lefts, Maps, OfNull};
 ghost use Rattle.sds_trade.specs.worked.Cutting.{WholeTransactions, FullBatches, EachTransaction, NothingIsCut};
+ghost use Rattle.sds_trade.specs.worked.Detecting.{ByKey, ByOld, ByChanged, ByVersion};
+ghost use Rattle.sds_trade.specs.worked.Falling.{InsertsStand, UpdatesStand, DeletesStand, NewerVersionWins, VersionIsNeeded};
 ghost use Rattle.sds_trade.specs.worked.Limits.{FullRefuses, NearlyFullTakes, CaptureIsFull, UncapturedIsTaken};
 ghost use Rattle.sds_trade.specs.worked.Loading.{CountIsAdded, SumIsTooGreat, LessIsAdded, OldIsNeeded, ChannelIsUnknown, TextsComeFirst, ParentIsMissing};
 ghost use Rattle.sds_trade.specs.worked.Naming.{MovesToNew, MovesFromOld, DeleteLooksBack, InsertHasNoOld, WordsAreApart, LookupDecides, ChoiceDecides};
+ghost use Rattle.sds_trade.specs.worked.Policies.{SpecifiedMakesItsColumns, AbsentOldIsTheKey, ImpliedKeepsPlaces, KeysRemain, DeletesBecome};
 ghost use Rattle.sds_trade.specs.worked.Resolving.{RowIsSkipped, BatchIsIgnored, ManualIsRefused, TieIsSkipped, NewerIsApplied};
-ghost use Rattle.sds_trade.specs.worked.Routing.{OwnGoesToAll, NoPingBack, PingBack, NamedOnce, DisabledNamesNone, NobodyIsNamed};
+ghost use Rattle.sds_trade.specs.worked.Routing.{OwnGoesToAll, NoPingBack, PingBack, NamedOnce, DisabledNamesNone, NobodyIsNamed, ChannelsGoInOrder, LanesAreApart};
+ghost use Rattle.sds_trade.specs.worked.Texts.{KeysAreNamed, ColumnsAreNamed, TextsAreRead};
 ghost use Rattle.sds_trade.specs.worked.Writes.{SecondKey, LostUpdate, SaleOfNothing, DeleteOfSold, SoldKeepsKey, KeyChanges, NullName, BadKey, ShortRow, NoTable, NullKey, SecondRow, FirstOfTwo, MissingGivesNull, MissingTakesKey, KeyBecomesNull};
 
 /// Batches of transactions of two, three and one changes, by each algorithm; and of no change.
@@ -43,8 +48,8 @@ pub fn writes_break_rules_on_texts()
     ensures key { NullKey }
 {}
 
-/// The first row that breaks a rule is answered, by the first rule that it breaks; an update that names
-/// no row is judged by what it gives.
+/// The first row that breaks a rule is answered, by the first rule that it breaks; an update that
+/// names no row is judged by what it gives.
 pub fn first_rule_answers()
     ensures row { SecondRow }
     ensures rule { FirstOfTwo }
@@ -53,7 +58,8 @@ pub fn first_rule_answers()
     ensures null_key { KeyBecomesNull }
 {}
 
-/// A node that has all the rows it may have takes no more, and where too many changes wait only what isn't captured.
+/// A node that has all the rows it may have takes no more, and where too many changes wait only
+/// what isn't captured.
 pub fn limits_refuse()
     ensures full { FullRefuses }
     ensures nearly { NearlyFullTakes }
@@ -70,7 +76,8 @@ pub fn tests_name_stores()
     ensures words { WordsAreApart }
 {}
 
-/// A row of another table decides whom a change is for, as it stands when the change is routed.
+/// A row of another table decides whom a change is for, as it stands when the change is
+/// routed.
 pub fn rows_name_stores()
     ensures lookup { LookupDecides }
     ensures choice { ChoiceDecides }
@@ -108,4 +115,50 @@ pub fn conflicts_are_resolved()
     ensures manual { ManualIsRefused }
     ensures tie { TieIsSkipped }
     ensures newer { NewerIsApplied }
+{}
+
+/// Rows as texts, and the rule that each breaks.
+pub fn texts_are_judged()
+    ensures keys { KeysAreNamed }
+    ensures columns { ColumnsAreNamed }
+    ensures values { TextsAreRead }
+{}
+
+/// Which steps are captured, and the changes that they become.
+pub fn steps_are_captured()
+    ensures groups { GroupsCapture }
+    ensures events { EventsCapture }
+    ensures numbers { ChangesAreNumbered }
+{}
+
+/// Batches of several channels and peers.
+pub fn channels_go_in_order()
+    ensures order { ChannelsGoInOrder }
+    ensures lanes { LanesAreApart }
+{}
+
+/// What transforms make of rows, by their policies and delete actions.
+pub fn rows_are_transformed()
+    ensures specified { SpecifiedMakesItsColumns }
+    ensures absent { AbsentOldIsTheKey }
+    ensures implied { ImpliedKeepsPlaces }
+    ensures keys { KeysRemain }
+    ensures deletes { DeletesBecome }
+{}
+
+/// What is a conflict, by each detection.
+pub fn conflicts_are_seen()
+    ensures key { ByKey }
+    ensures old { ByOld }
+    ensures changed { ByChanged }
+    ensures version { ByVersion }
+{}
+
+/// What is done with a row, by the tables, and where newer versions win.
+pub fn rows_fall_back()
+    ensures inserts { InsertsStand }
+    ensures updates { UpdatesStand }
+    ensures deletes { DeletesStand }
+    ensures newer { NewerVersionWins }
+    ensures needed { VersionIsNeeded }
 {}

@@ -1,4 +1,4 @@
--- Laws of runs: what is accepted keeps the tables sound, and what is refused or ignored leaves them.
+-- Laws of runs: what is accepted keeps the tables sound, what is refused or ignored leaves them.
 use Rattle.std.specs.Prelude.{◌≡◌, ℕ, List, [], ◌∷◌}
 use Rattle.sds_value.specs.declared.table.TableDef.{TableDef}
 use Rattle.sds_types.specs.declared.config.Config.{Config}

@@ -73,7 +73,7 @@ MovesFromOld =
     Names router.Column (codes "STORE_ID=:EXTERNAL_ID or OLD_STORE_ID=:EXTERNAL_ID") [] moved
     true true
 
--- of a delete both are the old value; an insert has no old value, which no text equals and null does
+-- of a delete both are the old value; an insert has no old value: no text equals it, and null does
 abbrev pub DeleteLooksBack : Type 0
 DeleteLooksBack = Names router.Column (codes "STORE_ID=:EXTERNAL_ID") [] taken true false
     × Names router.Column (codes "OLD_STORE_ID=:EXTERNAL_ID") [] taken true false

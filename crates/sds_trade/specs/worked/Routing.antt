@@ -2,10 +2,11 @@
 use Rattle.std.specs.Prelude.{◌≡◌, ℕ, true, false, List, [], ◌∷◌, map, length, codes, Option, None, Some}
 use Rattle.sds_value.specs.declared.row.Event.TheVariants.{Insert}
 use Rattle.sds_types.specs.declared.batch.NewBatch.{NewBatch}
+use Rattle.sds_types.specs.declared.channel.ChannelDef.{ChannelDef}
 use Rattle.sds_types.specs.declared.config.Config.{Config}
 use Rattle.sds_types.specs.declared.row.Change.{Change}
-use Rattle.sds_trade.specs.rules.Batches.{batches_of, routed_changes}
-use Rattle.sds_trade.specs.worked.Entries.{default_router, join_of, number}
+use Rattle.sds_trade.specs.rules.Batches.{batches_of, channels_in_order, routed_changes}
+use Rattle.sds_trade.specs.worked.Entries.{channel_def, default_router, join_of, number}
 use Rattle.sds_trade.specs.worked.Tiers.{tiers_with, region, region_peers}
 
 -- a change of the stock that a batch brought, or an own one
@@ -57,3 +58,32 @@ DisabledNamesNone = batches_with (record (tiers_with false) {
 -- a change that is for nobody stands in no batch
 abbrev pub NobodyIsNamed : Type 0
 NobodyIsNamed = batches_of (tiers_with false) 3 1 ((stock_change None, []) ∷ []) ≡ []
+
+-- channels go by their order and then by id, wherever they stand; each of two peers has the changes
+-- of each channel, cut where two make a batch full
+abbrev pub two_a_batch : ChannelDef → ChannelDef
+two_a_batch channel = record channel { max_batch_size = 2 }
+
+abbrev pub three_channels : Config
+three_channels = record (tiers_with false) {
+  channels = two_a_batch (channel_def (codes "c") 20)
+      ∷ (two_a_batch (channel_def (codes "b") 10)
+      ∷ (two_a_batch (channel_def (codes "a") 10) ∷ []));
+}
+
+abbrev pub ChannelsGoInOrder : Type 0
+ChannelsGoInOrder = map (λ (at : ℕ × ChannelDef). at.0) (channels_in_order three_channels)
+    ≡ 2 ∷ (1 ∷ (0 ∷ []))
+
+abbrev pub change_for : ℕ → ℕ → ℕ → List ℕ → Change × List ℕ
+change_for id tx channel peers =
+    (record (stock_change None) { id = id; tx = tx; channel = channel }, peers)
+
+abbrev pub LanesAreApart : Type 0
+LanesAreApart = batches_of three_channels 2 7 (change_for 1 1 0 (0 ∷ (1 ∷ []))
+    ∷ (change_for 2 1 1 (1 ∷ [])
+    ∷ (change_for 3 2 0 (0 ∷ []) ∷ (change_for 4 3 0 (0 ∷ []) ∷ []))))
+    ≡ record { id = 7; peer = 1; channel = 1; changes = 2 ∷ [] }
+    ∷ (record { id = 8; peer = 0; channel = 0; changes = 1 ∷ (3 ∷ []) }
+    ∷ (record { id = 9; peer = 0; channel = 0; changes = 4 ∷ [] }
+    ∷ (record { id = 10; peer = 1; channel = 0; changes = 1 ∷ [] } ∷ [])))
