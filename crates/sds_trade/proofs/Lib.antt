@@ -11,6 +11,12 @@ pub mod CapturingComputed
 pub mod PoliciesComputed
 pub mod DetectingComputed
 pub mod FallingComputed
+pub mod ReferencesComputed
+pub mod OperandsComputed
+pub mod PeersComputed
+pub mod ExtractingComputed
+pub mod KeysComputed
+pub mod BatchedComputed
 pub mod RowLimit
 pub mod Lists
 pub mod TableLaws

@@ -13,9 +13,10 @@ pub use laws::{
     tables_go_by_step,
 };
 pub use worked::{
-    batches_are_refused, batches_end_by_algorithm, batches_go_to_peers, channels_go_in_order,
-    columns_are_made, conflicts_are_resolved, conflicts_are_seen, counts_are_added,
-    first_rule_answers, limits_refuse, rows_are_transformed, rows_fall_back, rows_name_stores,
-    steps_are_captured, tests_name_stores, texts_are_judged, writes_break_keys_and_references,
-    writes_break_rules_on_texts,
+    batches_are_prepared, batches_are_refused, batches_end_by_algorithm, batches_go_to_peers,
+    changes_are_written, channels_go_in_order, columns_are_made, conflicts_are_resolved,
+    conflicts_are_seen, counts_are_added, first_rule_answers, keys_are_made, limits_refuse,
+    operands_are_compared, peers_are_told, rows_are_taken_away, rows_are_transformed,
+    rows_fall_back, rows_name_stores, steps_are_captured, tests_name_stores, texts_are_judged,
+    writes_break_keys_and_references, writes_break_rules_on_texts,
 };

@@ -1,13 +1,19 @@
 //! Worked cases of the rules, each computed from the definitions.
+ghost use Rattle.sds_trade.specs.worked.Batched.{BatchesAreKnown, RowsAreNumbered, InsertsNameKeys, BatchesAreCaptured, PricesAreAdded};
 ghost use Rattle.sds_trade.specs.worked.Capturing.{GroupsCapture, EventsCapture, ChangesAreNumbered};
 ghost use Rattle.sds_trade.specs.worked.Columns.{Substrings, Lefts, Maps, OfNull};
 ghost use Rattle.sds_trade.specs.worked.Cutting.{WholeTransactions, FullBatches, EachTransaction, NothingIsCut};
 ghost use Rattle.sds_trade.specs.worked.Detecting.{ByKey, ByOld, ByChanged, ByVersion};
+ghost use Rattle.sds_trade.specs.worked.Extracting.{ChangesAreWritten, TransformsAreMeant, DeletesAreNotAdded};
 ghost use Rattle.sds_trade.specs.worked.Falling.{InsertsStand, UpdatesStand, DeletesStand, NewerVersionWins, VersionIsNeeded};
+ghost use Rattle.sds_trade.specs.worked.Keys.{ListedKeyIsOnce, SpecifiedHasItsKeys, KeysAreLookedUp, KeysAreOld, EventsTakePart};
 ghost use Rattle.sds_trade.specs.worked.Limits.{FullRefuses, NearlyFullTakes, CaptureIsFull, UncapturedIsTaken};
 ghost use Rattle.sds_trade.specs.worked.Loading.{CountIsAdded, SumIsTooGreat, LessIsAdded, OldIsNeeded, ChannelIsUnknown, TextsComeFirst, ParentIsMissing};
 ghost use Rattle.sds_trade.specs.worked.Naming.{MovesToNew, MovesFromOld, DeleteLooksBack, InsertHasNoOld, WordsAreApart, LookupDecides, ChoiceDecides};
+ghost use Rattle.sds_trade.specs.worked.Operands.{WordsAreTold, DefaultNamesAll, LookupsLookRight, ChoicesByNode};
+ghost use Rattle.sds_trade.specs.worked.Peers.{TriggersTell, GroupsTell};
 ghost use Rattle.sds_trade.specs.worked.Policies.{SpecifiedMakesItsColumns, AbsentOldIsTheKey, ImpliedKeepsPlaces, KeysRemain, DeletesBecome};
+ghost use Rattle.sds_trade.specs.worked.References.{OthersMayGo, TablesAreApart, MissingIsMissing};
 ghost use Rattle.sds_trade.specs.worked.Resolving.{RowIsSkipped, BatchIsIgnored, ManualIsRefused, TieIsSkipped, NewerIsApplied};
 ghost use Rattle.sds_trade.specs.worked.Routing.{OwnGoesToAll, NoPingBack, PingBack, NamedOnce, DisabledNamesNone, NobodyIsNamed, ChannelsGoInOrder, LanesAreApart};
 ghost use Rattle.sds_trade.specs.worked.Texts.{KeysAreNamed, ColumnsAreNamed, TextsAreRead};
@@ -161,4 +167,50 @@ pub fn rows_fall_back()
     ensures deletes { DeletesStand }
     ensures newer { NewerVersionWins }
     ensures needed { VersionIsNeeded }
+{}
+
+/// Own writes that take rows away, where others refer to some of them.
+pub fn rows_are_taken_away()
+    ensures others { OthersMayGo }
+    ensures tables { TablesAreApart }
+    ensures missing { MissingIsMissing }
+{}
+
+/// What the tests, lookups and choices of routers compare.
+pub fn operands_are_compared()
+    ensures words { WordsAreTold }
+    ensures default { DefaultNamesAll }
+    ensures lookups { LookupsLookRight }
+    ensures choices { ChoicesByNode }
+{}
+
+/// Which peers a change is for, by trigger, group and node.
+pub fn peers_are_told()
+    ensures triggers { TriggersTell }
+    ensures groups { GroupsTell }
+{}
+
+/// Changes as rows of batches, and which transforms are for them.
+pub fn changes_are_written()
+    ensures written { ChangesAreWritten }
+    ensures meant { TransformsAreMeant }
+    ensures deletes { DeletesAreNotAdded }
+{}
+
+/// The keys of rows that transforms make, and events at which columns take part.
+pub fn keys_are_made()
+    ensures once { ListedKeyIsOnce }
+    ensures specified { SpecifiedHasItsKeys }
+    ensures looked_up { KeysAreLookedUp }
+    ensures old { KeysAreOld }
+    ensures events { EventsTakePart }
+{}
+
+/// Batches as a whole: their senders, settings, rows' numbers and keys, and what is captured.
+pub fn batches_are_prepared()
+    ensures known { BatchesAreKnown }
+    ensures numbers { RowsAreNumbered }
+    ensures keys { InsertsNameKeys }
+    ensures captured { BatchesAreCaptured }
+    ensures prices { PricesAreAdded }
 {}
