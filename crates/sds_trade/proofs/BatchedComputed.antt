@@ -3,7 +3,7 @@ use Rattle.std.proofs.Common.{refl}
 use Rattle.std.specs.Fmt.{digits}
 use Rattle.std.specs.Str.{chars}
 use lib.Utf8.{encode}
-use Rattle.sds_trade.specs.worked.Batched.{BatchesAreKnown, RowsAreNumbered, InsertsNameKeys, BatchesAreCaptured, PricesAreAdded}
+use Rattle.sds_trade.specs.worked.Batched.{BatchesAreKnown, RowsAreNumbered, InsertsNameKeys, ColumnsInAnyOrder, BatchesAreCaptured, PricesAreAdded}
 
 pub batches_are_known : BatchesAreKnown
 unfolding encode digits chars
@@ -16,6 +16,10 @@ rows_are_numbered = refl
 pub inserts_name_keys : InsertsNameKeys
 unfolding encode digits chars
 inserts_name_keys = (refl, refl, refl, refl)
+
+pub columns_in_any_order : ColumnsInAnyOrder
+unfolding encode digits chars
+columns_in_any_order = refl
 
 pub batches_are_captured : BatchesAreCaptured
 unfolding encode digits chars

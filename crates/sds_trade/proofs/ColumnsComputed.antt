@@ -3,7 +3,11 @@ use Rattle.std.proofs.Common.{refl}
 use Rattle.std.specs.Fmt.{digits}
 use Rattle.std.specs.Str.{chars}
 use lib.Utf8.{encode}
-use Rattle.sds_trade.specs.worked.Columns.{Substrings, Lefts, Maps, OfNull}
+use Rattle.sds_trade.specs.worked.Columns.{Copies, Substrings, Lefts, Maps, OfNull}
+
+pub copies : Copies
+unfolding encode digits chars
+copies = (refl, refl)
 
 pub substrings : Substrings
 unfolding encode digits chars

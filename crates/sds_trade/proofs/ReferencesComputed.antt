@@ -3,7 +3,7 @@ use Rattle.std.proofs.Common.{refl}
 use Rattle.std.specs.Fmt.{digits}
 use Rattle.std.specs.Str.{chars}
 use lib.Utf8.{encode}
-use Rattle.sds_trade.specs.worked.References.{OthersMayGo, TablesAreApart, MissingIsMissing}
+use Rattle.sds_trade.specs.worked.References.{OthersMayGo, TablesAreApart, MissingIsMissing, SoldMayChange}
 
 pub others_may_go : OthersMayGo
 unfolding encode digits chars
@@ -16,3 +16,7 @@ tables_are_apart = refl
 pub missing_is_missing : MissingIsMissing
 unfolding encode digits chars
 missing_is_missing = (refl, refl)
+
+pub sold_may_change : SoldMayChange
+unfolding encode digits chars
+sold_may_change = refl

@@ -1,7 +1,7 @@
 //! Worked cases of the rules, each computed from the definitions.
-ghost use Rattle.sds_trade.specs.worked.Batched.{BatchesAreKnown, RowsAreNumbered, InsertsNameKeys, BatchesAreCaptured, PricesAreAdded};
+ghost use Rattle.sds_trade.specs.worked.Batched.{BatchesAreKnown, RowsAreNumbered, InsertsNameKeys, ColumnsInAnyOrder, BatchesAreCaptured, PricesAreAdded};
 ghost use Rattle.sds_trade.specs.worked.Capturing.{GroupsCapture, EventsCapture, ChangesAreNumbered};
-ghost use Rattle.sds_trade.specs.worked.Columns.{Substrings, Lefts, Maps, OfNull};
+ghost use Rattle.sds_trade.specs.worked.Columns.{Copies, Substrings, Lefts, Maps, OfNull};
 ghost use Rattle.sds_trade.specs.worked.Cutting.{WholeTransactions, FullBatches, EachTransaction, NothingIsCut};
 ghost use Rattle.sds_trade.specs.worked.Detecting.{ByKey, ByOld, ByChanged, ByVersion};
 ghost use Rattle.sds_trade.specs.worked.Extracting.{ChangesAreWritten, TransformsAreMeant, DeletesAreNotAdded};
@@ -13,7 +13,7 @@ ghost use Rattle.sds_trade.specs.worked.Naming.{MovesToNew, MovesFromOld, Delete
 ghost use Rattle.sds_trade.specs.worked.Operands.{WordsAreTold, DefaultNamesAll, LookupsLookRight, ChoicesByNode};
 ghost use Rattle.sds_trade.specs.worked.Peers.{TriggersTell, GroupsTell};
 ghost use Rattle.sds_trade.specs.worked.Policies.{SpecifiedMakesItsColumns, AbsentOldIsTheKey, ImpliedKeepsPlaces, KeysRemain, DeletesBecome};
-ghost use Rattle.sds_trade.specs.worked.References.{OthersMayGo, TablesAreApart, MissingIsMissing};
+ghost use Rattle.sds_trade.specs.worked.References.{OthersMayGo, TablesAreApart, MissingIsMissing, SoldMayChange};
 ghost use Rattle.sds_trade.specs.worked.Resolving.{RowIsSkipped, BatchIsIgnored, ManualIsRefused, TieIsSkipped, NewerIsApplied};
 ghost use Rattle.sds_trade.specs.worked.Routing.{OwnGoesToAll, NoPingBack, PingBack, NamedOnce, DisabledNamesNone, NobodyIsNamed, ChannelsGoInOrder, LanesAreApart};
 ghost use Rattle.sds_trade.specs.worked.Texts.{KeysAreNamed, ColumnsAreNamed, TextsAreRead};
@@ -29,6 +29,7 @@ pub fn batches_end_by_algorithm()
 
 /// What `substr`, `left` and `valueMap` make of a text, and each function of null.
 pub fn columns_are_made()
+    ensures copy { Copies }
     ensures substr { Substrings }
     ensures left { Lefts }
     ensures map { Maps }
@@ -174,6 +175,7 @@ pub fn rows_are_taken_away()
     ensures others { OthersMayGo }
     ensures tables { TablesAreApart }
     ensures missing { MissingIsMissing }
+    ensures sold { SoldMayChange }
 {}
 
 /// What the tests, lookups and choices of routers compare.
@@ -211,6 +213,7 @@ pub fn batches_are_prepared()
     ensures known { BatchesAreKnown }
     ensures numbers { RowsAreNumbered }
     ensures keys { InsertsNameKeys }
+    ensures order { ColumnsInAnyOrder }
     ensures captured { BatchesAreCaptured }
     ensures prices { PricesAreAdded }
 {}

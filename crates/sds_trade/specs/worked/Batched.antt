@@ -1,6 +1,6 @@
 -- Worked cases: batches as a whole: who sent them, their settings, their rows' numbers, and what is
 -- captured of them.
-use Rattle.std.specs.Prelude.{◌≡◌, List, pos, true, false, [], ◌∷◌, None, Some, codes}
+use Rattle.std.specs.Prelude.{◌≡◌, ℕ, List, pos, true, false, [], ◌∷◌, None, Some, codes}
 use Rattle.sds_value.specs.declared.kind.Value.TheVariants as value
 use Rattle.sds_value.specs.declared.row.DocRow.{DocRow}
 use Rattle.sds_value.specs.declared.row.Event.TheVariants.{Insert}
@@ -12,6 +12,7 @@ use Rattle.sds_types.specs.declared.rule.Rule.TheVariants.{CaptureFull, MissingP
 use Rattle.sds_types.specs.declared.transform.TransformDef.{TransformDef}
 use Rattle.sds_types.specs.declared.way.Way.{Way}
 use Rattle.sds_trade.specs.rules.Outcomes.{outcome_of_batch, prepared_batch}
+use Rattle.sds_trade.specs.rules.Runs.{RunEnd}
 use Rattle.sds_trade.specs.rules.Runs.RunEnd.{Made, Refused}
 use Rattle.sds_trade.specs.worked.Entries.{number, table_row}
 use Rattle.sds_trade.specs.worked.Extracting.{item_row}
@@ -40,18 +41,29 @@ RowsAreNumbered = load_end shop (pen ∷ [])
     ≡ Refused 2 MissingParent
 
 -- an insert that names other keys, or one more; where no transform has made the row's keys
+abbrev pub stock_made : RunEnd
+stock_made = Made (record { step = step.Insert 1 (stock_of 1 5).row; old = None } ∷ [])
+    (pen ∷ (stock_of 1 5 ∷ []))
+
+abbrev pub plain_end : DocRow → RunEnd
+plain_end row = load_end (record shop { transforms = [] }) (pen ∷ [])
+    (batch_in (codes "stock") (row ∷ []))
+
 abbrev pub Keyed : List (List ℕ) → RunEnd → Type 0
-Keyed keys expected = load_end (record shop { transforms = [] }) (pen ∷ [])
-    (batch_in (codes "stock") (record (stock_insert (codes "5")) { keys = keys } ∷ [])) ≡ expected
+Keyed keys expected = plain_end (record (stock_insert (codes "5")) { keys = keys }) ≡ expected
 
 abbrev pub InsertsNameKeys : Type 0
 InsertsNameKeys = Keyed (codes "qty" ∷ []) (Refused 1 MissingKey)
     × Keyed (codes "item_id" ∷ (codes "qty" ∷ [])) (Refused 1 MissingKey)
     × Keyed (codes "item_id" ∷ (codes "other" ∷ [])) (Refused 1 UnknownColumn)
-    × Keyed (codes "item_id" ∷ []) (Made (record {
-      step = step.Insert 1 (stock_of 1 5).row;
-      old = None;
-    } ∷ []) (pen ∷ (stock_of 1 5 ∷ [])))
+    × Keyed (codes "item_id" ∷ []) stock_made
+
+-- columns may stand in any order
+abbrev pub ColumnsInAnyOrder : Type 0
+ColumnsInAnyOrder = plain_end (record (stock_insert (codes "5")) {
+  columns = codes "qty" ∷ (codes "item_id" ∷ []);
+  new = Text (codes "5") ∷ (Text (codes "1") ∷ []);
+}) ≡ stock_made
 
 -- where too many changes wait, a batch is refused where its rows would be captured again
 abbrev pub way_in_tiers : Way
@@ -75,8 +87,7 @@ BatchesAreCaptured =
     ≡ Refused 1 CaptureFull)
     × (outcome_of_batch shop (codes "corp") most_unrouted_changes (pen ∷ [])
     (prepared_batch shop way_up (batch_in (codes "stock") (stock_insert (codes "5") ∷ [])))
-    ≡ Made (record { step = step.Insert 1 (stock_of 1 5).row; old = None } ∷ [])
-    (pen ∷ (stock_of 1 5 ∷ [])))
+    ≡ stock_made)
 
 -- prices are added in hundredths
 abbrev pub price_transform : TransformDef

@@ -27,6 +27,9 @@ Substrings = MakesOfLetters Substr (codes "2,4") (codes "cd")
     × MakesOfLetters Substr (codes "9") []
     × MakesOfLetters Substr (codes "2") (codes "cdef")
 
+abbrev pub Copies : Type 0
+Copies = MakesOfLetters Copy [] (codes "abcdef") × MakesOfLetters Copy (codes "2") (codes "abcdef")
+
 abbrev pub Lefts : Type 0
 Lefts = MakesOfLetters Left (codes "2") (codes "ab")
     × MakesOfLetters Left (codes "9") (codes "abcdef")

@@ -1,5 +1,6 @@
 -- Worked cases: own writes that take rows away, where others refer to some of them.
-use Rattle.std.specs.Prelude.{◌≡◌, ℕ, List, [], ◌∷◌, Some, codes}
+use Rattle.std.specs.Prelude.{◌≡◌, pos, ℕ, List, [], ◌∷◌, Some, codes}
+use Rattle.sds_value.specs.declared.kind.Value.TheVariants as value
 use Rattle.sds_value.specs.declared.row.Event.TheVariants.{Delete, Update}
 use Rattle.sds_value.specs.declared.row.Field.TheVariants.{Null, Text}
 use Rattle.sds_types.specs.declared.row.RowStep.TheVariants as step
@@ -10,7 +11,7 @@ use Rattle.sds_trade.specs.rules.Captured.{Done}
 use Rattle.sds_trade.specs.rules.OwnWrites.{outcome_of_write}
 use Rattle.sds_trade.specs.rules.Runs.{RunEnd}
 use Rattle.sds_trade.specs.rules.Runs.RunEnd.{Made, Refused}
-use Rattle.sds_trade.specs.worked.Entries.{number}
+use Rattle.sds_trade.specs.worked.Entries.{number, table_row}
 use Rattle.sds_trade.specs.worked.Shop.{shop, pen, sale_a, stock_of}
 use Rattle.sds_trade.specs.worked.Writes.{cap, own_row}
 
@@ -46,3 +47,15 @@ MissingIsMissing = Ends (delete_row (codes "item") (codes "99")) (Refused 1 RowM
     × Ends (own_row Update (codes "item")
     (Text (codes "99") ∷ (Text (codes "price") ∷ (Null ∷ []))))
     (Refused 1 RowMissing)
+
+-- an item that was sold may change but for its key
+abbrev pub cheap_pen : TableRow
+cheap_pen = table_row 0 (number 1 ∷ (value.Text (codes "Pen") ∷ (value.Decimal (pos 5) ∷ [])))
+
+abbrev pub SoldMayChange : Type 0
+SoldMayChange = Ends (own_row Update (codes "item")
+    (Text (codes "1") ∷ (Text (codes "price") ∷ (Text (codes "0.05") ∷ []))))
+    (Made (record {
+      step = step.Update 0 (record { 0 = number 1 ∷ [] }) cheap_pen.row;
+      old = Some pen.row;
+    } ∷ []) (cheap_pen ∷ (cap ∷ (stock_of 1 5 ∷ (sale_a ∷ [])))))

@@ -1,5 +1,8 @@
-use Rattle.sds_trade.proofs.ColumnsComputed.{substrings, lefts, maps, of_null}
+use Rattle.sds_trade.proofs.ColumnsComputed.{copies, substrings, lefts, maps, of_null}
 use Rattle.sds_trade.proofs.worked.columns_are_made.Goals as goal
+
+pub returns-clause-copy : goal.returns-clause-copy
+returns-clause-copy c = copies
 
 pub returns-clause-substr : goal.returns-clause-substr
 returns-clause-substr c = substrings
