@@ -29,3 +29,4 @@ pub mod StepsKeep
 pub mod RunKeeps
 pub mod CutLaw
 pub mod CutOnly
+pub mod OrderLaws

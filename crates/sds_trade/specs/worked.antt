@@ -23,3 +23,4 @@ pub mod Batched
 pub mod Versions
 pub mod Detecting
 pub mod Falling
+pub mod Unsound

@@ -2,7 +2,7 @@
 ghost use Rattle.sds_trade.specs.laws.Captured.{NumbersAreConsecutive, UncapturedUsesNoNumber};
 ghost use Rattle.sds_trade.specs.laws.Cuts.{ChangesHaveOneCut, CutIsACut};
 ghost use Rattle.sds_trade.specs.laws.Named.{PeersAreNamedOnce};
-ghost use Rattle.sds_trade.specs.laws.Rules.{FirstStepRuleAnswers, AnsweredStepRuleIsBroken, FirstTextRuleAnswers, AnsweredTextRuleIsBroken};
+ghost use Rattle.sds_trade.specs.laws.Rules.{FirstStepRuleAnswers, AnsweredStepRuleIsBroken, FirstTextRuleAnswers, AnsweredTextRuleIsBroken, TextRulesComeFirst, FirstUnseenRuleAnswers, CaptureComesLast, MissingOldComesFirst};
 ghost use Rattle.sds_trade.specs.laws.Runs.{BatchesGoByStep, BatchesKeepTables, IgnoredBatchLeavesTables, RefusedBatchLeavesTables, RefusedWriteLeavesTables, WritesGoByStep, WritesKeepTables};
 ghost use Rattle.sds_trade.specs.laws.Tables.{AscendingKeysAreApart, StepsKeepOrder, StepsKeepReferences};
 ghost use Rattle.sds_trade.specs.laws.Transforms.{PlainChangesAreExtracted, PlainRowsAreShaped};
@@ -33,6 +33,15 @@ pub fn first_rules_answer()
     ensures step_broken { AnsweredStepRuleIsBroken }
     ensures text { FirstTextRuleAnswers }
     ensures text_broken { AnsweredTextRuleIsBroken }
+{}
+
+/// The rules on texts come before those on steps, those of an update that names no row in their
+/// order, and last that too many changes wait; a missing old value comes before every resolution.
+pub fn rules_come_in_order()
+    ensures texts { TextRulesComeFirst }
+    ensures unseen { FirstUnseenRuleAnswers }
+    ensures capture { CaptureComesLast }
+    ensures old { MissingOldComesFirst }
 {}
 
 /// A refused write, a refused batch and an ignored batch leave the tables as they were.

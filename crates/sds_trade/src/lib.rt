@@ -10,7 +10,7 @@ mod worked;
 pub use laws::{
     captured_changes_are_numbered, changes_are_cut_once, first_rules_answer, keys_stay_apart,
     peers_are_named_once, plain_rows_pass, references_hold, refusals_leave_tables,
-    tables_go_by_step,
+    rules_come_in_order, tables_go_by_step,
 };
 pub use worked::{
     batches_are_prepared, batches_are_refused, batches_end_by_algorithm, batches_go_to_peers,

@@ -75,15 +75,17 @@ change_in tx source done channel = record {
   source = source;
 }
 
+-- the change of a step at a node of a group, but for its number, or none where none captures it
 abbrev pub change_of : Config → List ℕ → ℕ → Option (List ℕ) → Done → Option Change
 change_of config group tx source done =
     option_map (change_in tx source done)
     (captured_channel config group (is_some source) done.step)
 
--- the changes of a transaction's steps: those that are captured, with consecutive numbers
+-- a change with its number
 abbrev pub numbered_change : ℕ × Change → Change
 numbered_change at = record at.1 { id = at.0 }
 
+-- the changes of a transaction's steps: those that are captured, with consecutive numbers
 abbrev pub changes_of : Config → List ℕ → ℕ → ℕ → Option (List ℕ) → List Done → List Change
 changes_of config group first tx source dones =
     map numbered_change (enumerate_from first (filter_map (change_of config group tx source) dones))

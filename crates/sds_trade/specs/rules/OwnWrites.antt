@@ -68,14 +68,15 @@ own_doc columns keys row Delete = record {
   old = None;
 }
 
+-- an own row as a row of texts for its table
 abbrev pub doc_of : List TableDef → TxRow → DocRow
 doc_of defs row =
     let table = unwrap_or (table_place defs row.table) (length defs) in
     own_doc (map (λ (column : ColumnDef). column.name) (columns_at defs table))
     (key_names defs table) row row.event
 
--- an update that names no row: of it a null that a column doesn't allow comes first, then a new key
--- that another row has, and then that the row is missing
+-- an update that names no row has no whole new row. It breaks a rule by a null that it gives to a
+-- column that doesn't allow it, else by a new key that a row has, else in that its row is missing
 abbrev pub gives_null : LoadRow → ℕ × ColumnDef → Bool
 gives_null row at = at.1.not_null && (gives row at.0 && is_null (new_value row at.0))
 
@@ -101,7 +102,7 @@ own_step defs rows row Insert = Apply (step.Insert row.table (inserted_row defs 
 own_step defs rows row Update = own_update defs rows row (row_at defs rows row.table row.key)
 own_step defs rows row Delete = Apply (step.Delete row.table row.key)
 
--- what an own row asks for where certain rows stand
+-- what an own row asks for where certain rows stand; its number is told by the run
 abbrev pub by_texts : List TableDef → List TableRow → Result LoadRow Rule → Resolution
 by_texts defs rows (Err rule) = Broken rule
 by_texts defs rows (Ok row) = own_step defs rows row row.event

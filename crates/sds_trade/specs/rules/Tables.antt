@@ -1,6 +1,6 @@
 -- A node's tables: the rows that stand, each with the place of its table, ascending by table and
 -- then by key. So no two rows of one table have one key.
-use Rattle.std.specs.Prelude.{◌≡◌, ℕ, ◌<◌, Bool, true, false, not, ◌&&◌, ◌==◌, IsTrue, List, [], ◌∷◌, map, length, Option, None, Some, option_map, unwrap_or, slice_get}
+use Rattle.std.specs.Prelude.{◌≡◌, ℕ, ◌<◌, ◌≤◌, Bool, true, false, not, ◌&&◌, ◌==◌, IsTrue, List, [], ◌∷◌, map, length, Option, None, Some, option_map, unwrap_or, slice_get}
 use Rattle.std.specs.List.{All, AllPairs, find, list_any, list_all, filter_map, zip}
 use Rattle.std.specs.Cmp.Lexicographic.{slice_cmp}
 use Rattle.std.specs.Ordering.{is_eq, nat_cmp, ordering_then}
@@ -11,6 +11,7 @@ use Rattle.sds_value.specs.declared.kind.Value.TheVariants.{Null}
 use Rattle.sds_value.specs.declared.table.ColumnDef.{ColumnDef}
 use Rattle.sds_value.specs.declared.table.TableDef.{TableDef}
 use Rattle.sds_value.specs.Values.{fits, value_order}
+use Rattle.sds_types.specs.Limits.{most_rows}
 use Rattle.sds_types.specs.declared.row.Row.{Row}
 use Rattle.sds_types.specs.declared.row.Key.{Key}
 use Rattle.sds_types.specs.declared.row.TableRow.{TableRow}
@@ -102,6 +103,7 @@ ReferencesHold defs rows =
 
 -- rows that are a node's tables
 pub record AreTables (defs : List TableDef) (rows : List TableRow) : Type 0 where
+  pub few : length rows ≤ most_rows
   pub known : All (λ (row : TableRow). row.table < length defs) rows
   pub held : All (λ (row : TableRow). IsRowOf (columns_at defs row.table) row.row) rows
   pub ascend : Ascend defs rows

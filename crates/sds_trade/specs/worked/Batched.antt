@@ -16,7 +16,7 @@ use Rattle.sds_trade.specs.rules.Runs.{RunEnd}
 use Rattle.sds_trade.specs.rules.Runs.RunEnd.{Made, Refused}
 use Rattle.sds_trade.specs.worked.Entries.{number, table_row}
 use Rattle.sds_trade.specs.worked.Extracting.{item_row}
-use Rattle.sds_trade.specs.worked.Loading.{batch_in, load_end, stock_insert}
+use Rattle.sds_trade.specs.worked.Loading.{batch_doc, load_end, stock_insert}
 use Rattle.sds_trade.specs.worked.Resolving.{sale_setting}
 use Rattle.sds_trade.specs.worked.Shop.{pen, shop, stock_of, sum_column, sum_transform, way_up}
 use Rattle.sds_trade.specs.worked.Tiers.{tiers_with}
@@ -26,7 +26,7 @@ abbrev pub BatchesAreKnown : Type 0
 BatchesAreKnown = let batch = prepared_batch (record shop {
   conflicts = record (sale_setting true) { source_group = 0; target_group = 1 }
       ∷ (record (sale_setting true) { target_table = 0 } ∷ (sale_setting true ∷ []));
-}) way_up (batch_in (codes "stock") []) in
+}) way_up (batch_doc (codes "stock") []) in
     (batch.from ≡ codes "s1") × (batch.from_group ≡ codes "store") × (batch.channel ≡ Some 1)
     × (batch.settings ≡ Some 1 ∷ (None ∷ (Some 2 ∷ [])))
 
@@ -37,7 +37,7 @@ stock_of_none =
 
 abbrev pub RowsAreNumbered : Type 0
 RowsAreNumbered = load_end shop (pen ∷ [])
-    (batch_in (codes "stock") (stock_insert (codes "5") ∷ (stock_of_none ∷ [])))
+    (batch_doc (codes "stock") (stock_insert (codes "5") ∷ (stock_of_none ∷ [])))
     ≡ Refused 2 MissingParent
 
 -- an insert that names other keys, or one more; where no transform has made the row's keys
@@ -47,7 +47,7 @@ stock_made = Made (record { step = step.Insert 1 (stock_of 1 5).row; old = None 
 
 abbrev pub plain_end : DocRow → RunEnd
 plain_end row = load_end (record shop { transforms = [] }) (pen ∷ [])
-    (batch_in (codes "stock") (row ∷ []))
+    (batch_doc (codes "stock") (row ∷ []))
 
 abbrev pub Keyed : List (List ℕ) → RunEnd → Type 0
 Keyed keys expected = plain_end (record (stock_insert (codes "5")) { keys = keys }) ≡ expected
@@ -83,10 +83,10 @@ tiers_stock = record (stock_insert (codes "5")) {
 abbrev pub BatchesAreCaptured : Type 0
 BatchesAreCaptured =
     (outcome_of_batch (tiers_with false) (codes "region") most_unrouted_changes []
-    (prepared_batch (tiers_with false) way_in_tiers (batch_in (codes "data") (tiers_stock ∷ [])))
+    (prepared_batch (tiers_with false) way_in_tiers (batch_doc (codes "data") (tiers_stock ∷ [])))
     ≡ Refused 1 CaptureFull)
     × (outcome_of_batch shop (codes "corp") most_unrouted_changes (pen ∷ [])
-    (prepared_batch shop way_up (batch_in (codes "stock") (stock_insert (codes "5") ∷ [])))
+    (prepared_batch shop way_up (batch_doc (codes "stock") (stock_insert (codes "5") ∷ [])))
     ≡ stock_made)
 
 -- prices are added in hundredths
@@ -102,7 +102,7 @@ dear_pen = table_row 0 (number 1 ∷ (value.Text (codes "Pen") ∷ (value.Decima
 
 abbrev pub PricesAreAdded : Type 0
 PricesAreAdded = load_end (record shop { transforms = price_transform ∷ [] }) (pen ∷ [])
-    (batch_in (codes "item") (item_row Insert (Text (codes "1") ∷ (Text (codes "Pen")
+    (batch_doc (codes "item") (item_row Insert (Text (codes "1") ∷ (Text (codes "Pen")
     ∷ (Text (codes "1.5") ∷ []))) [] None ∷ []))
     ≡ Made (record {
       step = step.Update 0 (record { 0 = number 1 ∷ [] }) dear_pen.row;

@@ -6,8 +6,8 @@ use Rattle.sds_types.specs.declared.channel.Algorithm.TheVariants.{Default, Tran
 use Rattle.sds_types.specs.declared.row.Change.{Change}
 use Rattle.sds_trade.specs.rules.Cuts.{cut}
 
-abbrev pub change_in : ℕ → Change
-change_in tx = record {
+abbrev pub change_of_tx : ℕ → Change
+change_of_tx tx = record {
   id = 1;
   tx = tx;
   table = 0;
@@ -20,7 +20,7 @@ change_in tx = record {
 
 -- transactions of two changes, of three and of one
 abbrev pub six_changes : List Change
-six_changes = map change_in (1 ∷ (1 ∷ (2 ∷ (2 ∷ (2 ∷ (3 ∷ []))))))
+six_changes = map change_of_tx (1 ∷ (1 ∷ (2 ∷ (2 ∷ (2 ∷ (3 ∷ []))))))
 
 -- how many changes each batch has where three make one full
 abbrev pub Has : Algorithm → List ℕ → Type 0

@@ -18,8 +18,8 @@ use Rattle.sds_trade.specs.worked.Entries.{number}
 use Rattle.sds_trade.specs.worked.Shop.{shop, shop_adding, way_up, pen, stock_of}
 
 -- a batch in a channel, and how its load at corp ends where certain rows stand
-abbrev pub batch_in : List ℕ → List DocRow → BatchDoc
-batch_in channel rows =
+abbrev pub batch_doc : List ℕ → List DocRow → BatchDoc
+batch_doc channel rows =
     record { channel = channel; batch = 1; binary = Base64; rows = rows }
 
 abbrev pub load_end : Config → List TableRow → BatchDoc → RunEnd
@@ -53,7 +53,7 @@ updated before after = Made (record {
 
 abbrev pub stock_end : Config → ℕ → DocRow → RunEnd
 stock_end config qty row =
-    load_end config (pen ∷ (stock_of 1 qty ∷ [])) (batch_in (codes "stock") (row ∷ []))
+    load_end config (pen ∷ (stock_of 1 qty ∷ [])) (batch_doc (codes "stock") (row ∷ []))
 
 -- SUMS. A store's count is added to the one that stands; a sum of more than 64 bits is refused
 abbrev pub CountIsAdded : Type 0
@@ -77,15 +77,15 @@ OldIsNeeded = stock_end twice_less 10 (stock_update (codes "3") None) ≡ Refuse
 -- whose texts are wrong even where an earlier one would break a later rule
 abbrev pub ChannelIsUnknown : Type 0
 ChannelIsUnknown = load_end shop (pen ∷ [])
-    (batch_in (codes "other") (stock_insert (codes "1") ∷ [])) ≡ Refused 0 UnknownChannel
+    (batch_doc (codes "other") (stock_insert (codes "1") ∷ [])) ≡ Refused 0 UnknownChannel
 
 abbrev pub nowhere : DocRow
 nowhere = record (stock_insert (codes "1")) { table = codes "nowhere" }
 
 abbrev pub TextsComeFirst : Type 0
 TextsComeFirst = load_end shop []
-    (batch_in (codes "stock") (stock_insert (codes "1") ∷ (nowhere ∷ []))) ≡ Refused 2 UnknownTable
+    (batch_doc (codes "stock") (stock_insert (codes "1") ∷ (nowhere ∷ []))) ≡ Refused 2 UnknownTable
 
 abbrev pub ParentIsMissing : Type 0
-ParentIsMissing = load_end shop [] (batch_in (codes "stock") (stock_insert (codes "1") ∷ []))
+ParentIsMissing = load_end shop [] (batch_doc (codes "stock") (stock_insert (codes "1") ∷ []))
     ≡ Refused 1 MissingParent

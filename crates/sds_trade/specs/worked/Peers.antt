@@ -17,14 +17,14 @@ store = peer_of (codes "s1") (codes "store") (codes "001")
 
 -- at corp an item is for the store, a stock for nobody; at the store a stock is for corp, an item
 -- for nobody
-abbrev pub change_of : ℕ → Change
-change_of table = record (stock_change None) { table = table; channel = 2 }
+abbrev pub change_on : ℕ → Change
+change_on table = record (stock_change None) { table = table; channel = 2 }
 
 abbrev pub TriggersTell : Type 0
-TriggersTell = For shop corp (store ∷ []) (change_of 0) (0 ∷ [])
-    × For shop corp (store ∷ []) (change_of 1) []
-    × For shop store (corp ∷ []) (change_of 1) (0 ∷ [])
-    × For shop store (corp ∷ []) (change_of 0) []
+TriggersTell = For shop corp (store ∷ []) (change_on 0) (0 ∷ [])
+    × For shop corp (store ∷ []) (change_on 1) []
+    × For shop store (corp ∷ []) (change_on 1) (0 ∷ [])
+    × For shop store (corp ∷ []) (change_on 0) []
 
 -- a router of another group names nobody, and a node is never named at itself
 abbrev pub from_stores : Config

@@ -21,7 +21,7 @@ use Rattle.sds_trade.specs.rules.Runs.{RunEnd}
 use Rattle.sds_trade.specs.rules.Runs.RunEnd.{Made, Ignored, Refused}
 use Rattle.sds_trade.specs.worked.Entries.{column_def, optional, table_def, number, table_row}
 use Rattle.sds_trade.specs.worked.Shop.{shop, pen, sale_a}
-use Rattle.sds_trade.specs.worked.Loading.{batch_in, load_end}
+use Rattle.sds_trade.specs.worked.Loading.{batch_doc, load_end}
 
 -- CONFLICTS. A setting for the shop's sales
 abbrev pub sale_setting : Bool → ConflictDef
@@ -52,7 +52,7 @@ sale_b = table_row 2 (value.Text (codes "b")
 
 abbrev pub sales_end : ConflictDef → RunEnd
 sales_end setting = load_end (record shop { conflicts = setting ∷ [] }) (pen ∷ (sale_b ∷ []))
-    (batch_in (codes "sale") (sale_doc (codes "a") ∷ (sale_doc (codes "b") ∷ [])))
+    (batch_doc (codes "sale") (sale_doc (codes "a") ∷ (sale_doc (codes "b") ∷ [])))
 
 -- a sale that stands is skipped alone, or its whole batch is, or the batch is refused at its row
 abbrev pub RowIsSkipped : Type 0
