@@ -37,8 +37,8 @@ SectionsAreChecked =
       channels = record (channel_def (codes "x") 1) { max_batch_size = 0 } ∷ shop.channels;
     })
 
--- a reference to a later table, and one to a key of another kind; a key that allows null; a name that
--- stands twice
+-- a reference to a later table, and one to a key of another kind; a key that allows null; a name
+-- that stands twice
 abbrev pub Untabled : List TableDef → Type 0
 Untabled defs = AreTableDefs defs → ⊥
 
@@ -46,17 +46,20 @@ abbrev pub items : TableDef
 items = table_def (codes "item") item_columns
 
 abbrev pub refers : Kind → ℕ → TableDef
-refers kind parent = table_def (codes "refers") (column_def (codes "item_id") kind (Some parent) ∷ [])
+refers kind parent =
+    table_def (codes "refers") (column_def (codes "item_id") kind (Some parent) ∷ [])
 
 abbrev pub TablesAreChecked : Type 0
 TablesAreChecked = AreTableDefs (items ∷ (refers Integer 0 ∷ []))
     × AreTableDefs (refers Integer 0 ∷ (items ∷ []))
     × Untabled (refers Integer 1 ∷ (items ∷ []))
     × Untabled (items ∷ (refers (Varchar 5) 0 ∷ []))
-    × Untabled (table_def (codes "item") (optional (column_def (codes "id") Integer None) ∷ []) ∷ [])
+    × Untabled
+    (table_def (codes "item") (optional (column_def (codes "id") Integer None) ∷ []) ∷ [])
     × Untabled (items ∷ (items ∷ []))
 
--- a second trigger on a table; a router where no link leads, or of another text than it is parsed as
+-- a second trigger on a table; a router where no link leads, or of another text than it is parsed
+-- as; a trigger that is joined to a router twice
 abbrev pub RoutesAreChecked : Type 0
 RoutesAreChecked =
     Unsound (record shop { triggers = trigger_def (codes "again") 0 ∷ shop.triggers })
