@@ -3,7 +3,7 @@ use Rattle.std.proofs.Common.{refl}
 use Rattle.std.specs.Fmt.{digits}
 use Rattle.std.specs.Str.{chars}
 use lib.Utf8.{encode}
-use Rattle.sds_trade.specs.worked.Cutting.{WholeTransactions, FullBatches, EachTransaction, NothingIsCut}
+use Rattle.sds_trade.specs.worked.Cutting.{WholeTransactions, FullBatches, EachTransaction, NothingIsCut, PlacesAndCounts}
 
 pub whole_transactions : WholeTransactions
 unfolding encode digits chars
@@ -20,3 +20,7 @@ each_transaction = refl
 pub nothing_is_cut : NothingIsCut
 unfolding encode digits chars
 nothing_is_cut = (refl, refl, refl)
+
+pub places_and_counts : PlacesAndCounts
+unfolding encode digits chars
+places_and_counts = refl

@@ -2,7 +2,7 @@
 ghost use Rattle.sds_trade.specs.worked.Batched.{BatchesAreKnown, RowsAreNumbered, InsertsNameKeys, ColumnsInAnyOrder, BatchesAreCaptured, PricesAreAdded};
 ghost use Rattle.sds_trade.specs.worked.Capturing.{GroupsCapture, EventsCapture, ChangesAreNumbered};
 ghost use Rattle.sds_trade.specs.worked.Columns.{Copies, Substrings, Lefts, Maps, OfNull};
-ghost use Rattle.sds_trade.specs.worked.Cutting.{WholeTransactions, FullBatches, EachTransaction, NothingIsCut};
+ghost use Rattle.sds_trade.specs.worked.Cutting.{WholeTransactions, FullBatches, EachTransaction, NothingIsCut, PlacesAndCounts};
 ghost use Rattle.sds_trade.specs.worked.Detecting.{ByKey, ByOld, ByChanged, ByVersion};
 ghost use Rattle.sds_trade.specs.worked.Extracting.{ChangesAreWritten, TransformsAreMeant, DeletesAreNotAdded};
 ghost use Rattle.sds_trade.specs.worked.Falling.{InsertsStand, UpdatesStand, DeletesStand, NewerVersionWins, VersionIsNeeded};
@@ -25,6 +25,7 @@ pub fn batches_end_by_algorithm()
     ensures full { FullBatches }
     ensures each { EachTransaction }
     ensures nothing { NothingIsCut }
+    ensures places { PlacesAndCounts }
 {}
 
 /// What `substr`, `left` and `valueMap` make of a text, and each function of null.

@@ -1,6 +1,6 @@
 -- The batches that a routing run makes of the changes that wait.
-use Rattle.std.specs.Prelude.{ℕ, Bool, ◌&&◌, ◌==◌, List, [], ◌∷◌, ◌++◌, map}
-use Rattle.std.specs.List.{enumerate_from, filter, flat_map, list_any, range_with_len}
+use Rattle.std.specs.Prelude.{ℕ, ◌+◌, max, Bool, ◌&&◌, ◌==◌, List, [], ◌∷◌, ◌++◌, map}
+use Rattle.std.specs.List.{enumerate_from, fold, filter, flat_map, list_any, range_with_len}
 use Rattle.std.specs.Ordering.{nat_cmp, ordering_then, is_lt}
 use Rattle.std.specs.Cmp.Lexicographic.{slice_cmp}
 use Rattle.std.specs.declared.cmp.Ordering.{Ordering}
@@ -61,11 +61,17 @@ lane_batches routed at peer = map (batch_in at.0 peer)
 abbrev pub numbered_batch : ℕ × NewBatch → NewBatch
 numbered_batch at = record at.1 { id = at.0 }
 
+-- one more than the greatest place of a peer that a change is for
+abbrev pub peers_named : List (Change × List ℕ) → ℕ
+peers_named routed =
+    fold max 0 (map (λ (target : ℕ). target + 1) (flat_map (λ (at : Change × List ℕ). at.1) routed))
+
 -- the batches of changes with the peers that they are for: channel by channel in their order, and
--- in each peer by peer, of so many peers; their numbers are consecutive
-abbrev pub batches_of : Config → ℕ → ℕ → List (Change × List ℕ) → List NewBatch
-batches_of config peers first routed = map numbered_batch (enumerate_from first
-    (flat_map (λ (at : ℕ × ChannelDef). flat_map (lane_batches routed at) (range_with_len 0 peers))
+-- in each peer by peer; their numbers are consecutive
+abbrev pub batches_of : Config → ℕ → List (Change × List ℕ) → List NewBatch
+batches_of config first routed = map numbered_batch (enumerate_from first
+    (flat_map (λ (at : ℕ × ChannelDef).
+    flat_map (lane_batches routed at) (range_with_len 0 (peers_named routed)))
     (channels_in_order config)))
 
 -- what a routing run at a node makes of the changes that wait, where certain rows stand

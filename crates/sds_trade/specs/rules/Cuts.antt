@@ -1,8 +1,9 @@
 -- Where a lane's changes are cut into batches, by the channel's algorithm. The changes of a
 -- transaction stand side by side; what a change is doesn't matter, but only its transaction.
-use Rattle.std.specs.Prelude.{◌≡◌, ◌≢◌, ℕ, ◌<◌, ◌≤◌, ◌==◌, nat_le, if◌then◌else◌, List, [], ◌∷◌, ◌++◌, length}
+use Rattle.std.specs.Prelude.{◌≡◌, ◌+◌, ◌≢◌, ℕ, ◌<◌, ◌≤◌, ◌==◌, nat_le, if◌then◌else◌, List, [], ◌∷◌, ◌++◌, length}
 use Rattle.sds_types.specs.declared.channel.Algorithm.{Algorithm}
 use Rattle.sds_types.specs.declared.channel.Algorithm.TheVariants.{Default, Transactional, Nontransactional}
+use Rattle.sds_types.specs.declared.cut.Cut.{Cut}
 use Rattle.sds_types.specs.declared.row.Change.{Change}
 
 -- THE CUT, by its pieces
@@ -85,3 +86,12 @@ abbrev pub cut : Algorithm → ℕ → List Change → List (List Change)
 cut Default max changes = pieces_from max [] (runs_of changes)
 cut Transactional max changes = runs_of changes
 cut Nontransactional max changes = pieces_from max [] (singles_of changes)
+
+-- the pieces by the place of their first change and their number of changes, from a place on
+abbrev pub cuts_from : ℕ → List (List Change) → List Cut
+cuts_from first [] = []
+cuts_from first (piece ∷ pieces) =
+    record { first = first; count = length piece } ∷ cuts_from (first + length piece) pieces
+
+abbrev pub cuts_of : Algorithm → ℕ → List Change → List Cut
+cuts_of algorithm max changes = cuts_from 0 (cut algorithm max changes)

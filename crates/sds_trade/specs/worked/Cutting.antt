@@ -4,7 +4,7 @@ use Rattle.sds_value.specs.declared.row.Event.TheVariants.{Insert}
 use Rattle.sds_types.specs.declared.channel.Algorithm.{Algorithm}
 use Rattle.sds_types.specs.declared.channel.Algorithm.TheVariants.{Default, Transactional, Nontransactional}
 use Rattle.sds_types.specs.declared.row.Change.{Change}
-use Rattle.sds_trade.specs.rules.Cuts.{cut}
+use Rattle.sds_trade.specs.rules.Cuts.{cut, cuts_of}
 
 abbrev pub change_of_tx : ℕ → Change
 change_of_tx tx = record {
@@ -39,3 +39,8 @@ EachTransaction = Has Transactional (2 ∷ (3 ∷ (1 ∷ [])))
 abbrev pub NothingIsCut : Type 0
 NothingIsCut = (cut Default 3 [] ≡ []) × (cut Nontransactional 3 [] ≡ [])
     × (cut Transactional 3 [] ≡ [])
+
+-- the same by places and counts
+abbrev pub PlacesAndCounts : Type 0
+PlacesAndCounts = cuts_of Transactional 3 six_changes ≡ record { first = 0; count = 2 }
+    ∷ (record { first = 2; count = 3 } ∷ (record { first = 5; count = 1 } ∷ []))

@@ -1,5 +1,5 @@
 -- Worked cases: which batches a routing run makes of a change.
-use Rattle.std.specs.Prelude.{◌≡◌, ℕ, true, false, List, [], ◌∷◌, map, length, codes, Option, None, Some}
+use Rattle.std.specs.Prelude.{◌≡◌, ℕ, true, false, List, [], ◌∷◌, map, codes, Option, None, Some}
 use Rattle.sds_value.specs.declared.row.Event.TheVariants.{Insert}
 use Rattle.sds_types.specs.declared.batch.NewBatch.{NewBatch}
 use Rattle.sds_types.specs.declared.channel.ChannelDef.{ChannelDef}
@@ -25,7 +25,7 @@ stock_change source = record {
 -- what a routing run at the region makes of it: the number, and the place of the peer
 abbrev pub batches_with : Config → Option (List ℕ) → List (ℕ × ℕ)
 batches_with config source = map (λ (batch : NewBatch). (batch.id, batch.peer))
-    (batches_of config (length region_peers) 1
+    (batches_of config 1
     (routed_changes config region [] region_peers (stock_change source ∷ [])))
 
 -- an own change of the region is for corp and both stores
@@ -57,7 +57,7 @@ DisabledNamesNone = batches_with (record (tiers_with false) {
 
 -- a change that is for nobody stands in no batch
 abbrev pub NobodyIsNamed : Type 0
-NobodyIsNamed = batches_of (tiers_with false) 3 1 ((stock_change None, []) ∷ []) ≡ []
+NobodyIsNamed = batches_of (tiers_with false) 1 ((stock_change None, []) ∷ []) ≡ []
 
 -- channels go by their order and then by id, wherever they stand; each of two peers has the changes
 -- of each channel, cut where two make a batch full
@@ -80,7 +80,7 @@ change_for id tx channel peers =
     (record (stock_change None) { id = id; tx = tx; channel = channel }, peers)
 
 abbrev pub LanesAreApart : Type 0
-LanesAreApart = batches_of three_channels 2 7 (change_for 1 1 0 (0 ∷ (1 ∷ []))
+LanesAreApart = batches_of three_channels 7 (change_for 1 1 0 (0 ∷ (1 ∷ []))
     ∷ (change_for 2 1 1 (1 ∷ [])
     ∷ (change_for 3 2 0 (0 ∷ []) ∷ (change_for 4 3 0 (0 ∷ []) ∷ []))))
     ≡ record { id = 7; peer = 1; channel = 1; changes = 2 ∷ [] }

@@ -1,4 +1,4 @@
-use Rattle.sds_trade.proofs.CuttingComputed.{whole_transactions, full_batches, each_transaction, nothing_is_cut}
+use Rattle.sds_trade.proofs.CuttingComputed.{whole_transactions, full_batches, each_transaction, nothing_is_cut, places_and_counts}
 use Rattle.sds_trade.proofs.worked.batches_end_by_algorithm.Goals as goal
 
 pub returns-clause-whole : goal.returns-clause-whole
@@ -12,3 +12,6 @@ returns-clause-each c = each_transaction
 
 pub returns-clause-nothing : goal.returns-clause-nothing
 returns-clause-nothing c = nothing_is_cut
+
+pub returns-clause-places : goal.returns-clause-places
+returns-clause-places c = places_and_counts
