@@ -1,0 +1,4 @@
+pub mod rules
+pub mod laws
+pub mod sound
+pub mod worked

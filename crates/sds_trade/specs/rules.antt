@@ -1,0 +1,27 @@
+-- The rules of the trade, one subject a file, in the order in which a row meets them.
+pub mod Places
+pub mod Expressions
+pub mod Sound
+pub mod Tables
+pub mod Steps
+pub mod StepRules
+pub mod DocRows
+pub mod TextRules
+pub mod LoadRows
+pub mod RowValues
+pub mod Captured
+pub mod Runs
+pub mod OwnWrites
+pub mod RoutedValues
+pub mod Routers
+pub mod Named
+pub mod Cuts
+pub mod Batches
+pub mod Sides
+pub mod ColumnFunctions
+pub mod MadeSides
+pub mod MadeRows
+pub mod Transforms
+pub mod Conflicts
+pub mod Resolutions
+pub mod Outcomes

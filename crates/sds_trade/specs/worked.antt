@@ -1,0 +1,26 @@
+-- Worked cases of the rules, each a proposition that is computed from the definitions.
+pub mod Entries
+pub mod Shop
+pub mod Tiers
+pub mod Writes
+pub mod References
+pub mod Limits
+pub mod Texts
+pub mod Capturing
+pub mod Cutting
+pub mod Naming
+pub mod Operands
+pub mod Routing
+pub mod Peers
+pub mod Columns
+pub mod Transforming
+pub mod Policies
+pub mod Keys
+pub mod Loading
+pub mod Extracting
+pub mod Resolving
+pub mod Batched
+pub mod Versions
+pub mod Detecting
+pub mod Falling
+pub mod Unsound
