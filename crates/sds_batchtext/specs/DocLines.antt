@@ -13,20 +13,28 @@ use Rattle.sds_batchtext.specs.declared.directive.Directive.TheVariants as direc
 use Rattle.sds_batchtext.specs.declared.doc_line.DocLine.{DocLine}
 use Rattle.sds_batchtext.specs.declared.doc_line.DocLine.TheVariants.{NodeId, Binary as BinaryForm, Channel, Batch, Table, Keys, Columns, Insert, Update, Old, Delete, Commit, Skipped}
 
--- the text of the one field, which is a name
+-- the text, where it is a name
+abbrev pub name_of : List ℕ → Option (List ℕ)
+name_of text = if is_name_text text then Some text else None
+
+-- the one field, which is a name
 abbrev pub name_in : List Field → Option (List ℕ)
-name_in (Text name ∷ []) = if is_name_text name then Some name else None
+name_in (Text text ∷ []) = name_of text
 name_in fields = None
 
 -- the names that the fields are, where each is one
-abbrev pub onto : List ℕ → Option (List (List ℕ)) → Option (List (List ℕ))
-onto name None = None
-onto name (Some names) = Some (name ∷ names)
+abbrev pub field_name : Field → Option (List ℕ)
+field_name Null = None
+field_name (Text text) = name_of text
+
+abbrev pub onto : Option (List ℕ) → Option (List (List ℕ)) → Option (List (List ℕ))
+onto None names = None
+onto (Some name) None = None
+onto (Some name) (Some names) = Some (name ∷ names)
 
 abbrev pub all_names : List Field → Option (List (List ℕ))
 all_names [] = Some []
-all_names (Null ∷ fields) = None
-all_names (Text name ∷ fields) = if is_name_text name then onto name (all_names fields) else None
+all_names (field ∷ fields) = onto (field_name field) (all_names fields)
 
 -- one name or more
 abbrev pub names_in : List Field → Option (List (List ℕ))

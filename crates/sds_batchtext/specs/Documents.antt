@@ -12,7 +12,7 @@ use Rattle.sds_value.specs.declared.row.Event.TheVariants as event
 use Rattle.sds_value.specs.declared.row.Field.{Field}
 use Rattle.sds_batchtext.specs.declared.doc_line.DocLine.{DocLine}
 use Rattle.sds_batchtext.specs.declared.doc_line.DocLine.TheVariants.{Batch, Insert, Update, Delete, Commit}
-use Rattle.sds_batchtext.specs.declared.doc_line.Heading.{Heading}
+use Rattle.sds_batchtext.specs.declared.heading.Heading.{Heading}
 use Rattle.sds_batchtext.specs.declared.doc_line.NodeLine.{NodeLine}
 use Rattle.sds_batchtext.specs.LookingBack.{node_of, binary_of, channel_of, is_open, heading_of, pending_old}
 use Rattle.sds_batchtext.specs.Judging.{given, lines_said, broken_line}
@@ -28,29 +28,34 @@ row_of heading kind new key old = record {
   event = kind; table = given_text heading.table; keys = given heading.keys; columns = given heading.columns; new = new; key = key; old = old }
 
 -- the row that a line gives, under this heading and with this old row
-abbrev pub row_said : Heading → Option (List Field) → DocLine → List DocRow
-row_said heading old (Insert values) = row_of heading event.Insert values [] None ∷ []
+abbrev pub row_said : Heading → Option (List Field) → DocLine → Option DocRow
+row_said heading old (Insert values) = Some (row_of heading event.Insert values [] None)
 row_said heading old (Update values) =
-    row_of heading event.Update (take (length (given heading.columns)) values) (drop (length (given heading.columns)) values) old ∷ []
-row_said heading old (Delete values) = row_of heading event.Delete [] values old ∷ []
-row_said heading old line = []
+    Some (row_of heading event.Update (take (length (given heading.columns)) values) (drop (length (given heading.columns)) values) old)
+row_said heading old (Delete values) = Some (row_of heading event.Delete [] values old)
+row_said heading old line = None
+
+-- these and one more, if there is one
+abbrev pub and_one : {A : Type 0} → List A → Option A → List A
+and_one things None = things
+and_one things (Some thing) = things ++ thing ∷ []
 
 -- the rows of the batch so far: those after its `batch` line
 abbrev pub rows_of : List DocLine → List DocRow
 rows_of [] = []
 rows_of (Batch id ∷ older) = []
 rows_of (Commit id ∷ older) = []
-rows_of (line ∷ older) = rows_of older ++ row_said (heading_of older) (pending_old older) line
+rows_of (line ∷ older) = and_one (rows_of older) (row_said (heading_of older) (pending_old older) line)
 
--- the batch that a `commit` line ends, and no other line
-abbrev pub batch_said : List DocLine → DocLine → List BatchDoc
-batch_said older (Commit id) = record { channel = given_text (channel_of older); batch = id; binary = binary_of older; rows = rows_of older } ∷ []
-batch_said older line = []
+-- the batch that a `commit` line ends
+abbrev pub batch_said : List DocLine → DocLine → Option BatchDoc
+batch_said older (Commit id) = Some (record { channel = given_text (channel_of older); batch = id; binary = binary_of older; rows = rows_of older })
+batch_said older line = None
 
 -- the whole batches, in order
 abbrev pub batches_of : List DocLine → List BatchDoc
 batches_of [] = []
-batches_of (line ∷ older) = batches_of older ++ batch_said older line
+batches_of (line ∷ older) = and_one (batches_of older) (batch_said older line)
 
 -- what the lines of a text say, up to the first that may not stand
 abbrev pub said_in : Bool → List ℕ → List DocLine

@@ -1,5 +1,5 @@
 -- Whether a line of a document may stand where it stands, and the first line that may not.
-use Rattle.std.specs.Prelude.{ℕ, ◌+◌, Bool, true, false, not, ◌&&◌, ◌==◌, is_some, if◌then◌else◌, List, [], ◌∷◌, length, drop, Option, Some, None, Result, Ok, Err}
+use Rattle.std.specs.Prelude.{ℕ, ◌+◌, Bool, true, false, not, ◌&&◌, ◌||◌, ◌==◌, is_some, if◌then◌else◌, List, [], ◌∷◌, length, drop, Option, Some, None, Result, Ok, Err}
 use Rattle.sds_line.specs.declared.line.Line.{Line}
 use Rattle.sds_types.specs.declared.document.DocumentCause.{DocumentCause}
 use Rattle.sds_types.specs.declared.document.DocumentCause.TheVariants.{OutOfPlace, BadFields, CommitMismatch}
@@ -10,7 +10,7 @@ use Rattle.sds_batchtext.specs.declared.directive.Directive.{Directive}
 use Rattle.sds_batchtext.specs.declared.directive.Directive.TheVariants as directive
 use Rattle.sds_batchtext.specs.declared.doc_line.DocLine.{DocLine}
 use Rattle.sds_batchtext.specs.declared.doc_line.DocLine.TheVariants.{Insert, Update, Old, Delete, Commit}
-use Rattle.sds_batchtext.specs.declared.doc_line.Heading.{Heading}
+use Rattle.sds_batchtext.specs.declared.heading.Heading.{Heading}
 use Rattle.sds_batchtext.specs.Directives.{directive_of}
 use Rattle.sds_batchtext.specs.DocLines.{line_said}
 use Rattle.sds_batchtext.specs.LookingBack.{node_of, channel_of, is_open, last_batch, table_of, heading_of, pending_old}

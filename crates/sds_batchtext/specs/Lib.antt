@@ -1,5 +1,9 @@
+pub mod Words
 pub mod Directives
 pub mod DocLines
 pub mod LookingBack
 pub mod Judging
 pub mod Documents
+pub mod Entries
+pub mod Positions
+pub mod Reading

@@ -6,7 +6,7 @@ use Rattle.sds_value.specs.declared.kind.Binary.TheVariants.{Base64}
 use Rattle.sds_value.specs.declared.row.Field.{Field}
 use Rattle.sds_batchtext.specs.declared.doc_line.DocLine.{DocLine}
 use Rattle.sds_batchtext.specs.declared.doc_line.DocLine.TheVariants.{NodeId, Binary as BinaryForm, Channel, Batch, Table, Keys, Columns, Old, Commit, Skipped}
-use Rattle.sds_batchtext.specs.declared.doc_line.Heading.{Heading}
+use Rattle.sds_batchtext.specs.declared.heading.Heading.{Heading}
 use Rattle.sds_batchtext.specs.declared.doc_line.NodeLine.{NodeLine}
 
 -- the node of the `nodeid` line

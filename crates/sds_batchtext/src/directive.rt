@@ -2,6 +2,7 @@
 ghost use Rattle.std.specs.Prelude.{◌≡◌};
 ghost use Rattle.sds_batchtext.specs.Directives as named;
 
+use crate::words::is_word;
 use sds_base::Txt;
 use sds_types::DocumentCause;
 use sds_value::Field;
@@ -71,13 +72,13 @@ fn directive_named(word: &Txt) -> Result<Directive, DocumentCause>
 fn row_directive(word: &Txt) -> Option<Directive>
     ensures { result ≡ named.row_directive word.now }
 {
-    if word.is("insert") {
+    if is_word(word, "insert") {
         Some(Directive::Insert)
-    } else if word.is("update") {
+    } else if is_word(word, "update") {
         Some(Directive::Update)
-    } else if word.is("old") {
+    } else if is_word(word, "old") {
         Some(Directive::Old)
-    } else if word.is("delete") {
+    } else if is_word(word, "delete") {
         Some(Directive::Delete)
     } else {
         None
@@ -87,11 +88,11 @@ fn row_directive(word: &Txt) -> Option<Directive>
 fn table_directive(word: &Txt) -> Option<Directive>
     ensures { result ≡ named.table_directive word.now }
 {
-    if word.is("table") {
+    if is_word(word, "table") {
         Some(Directive::Table)
-    } else if word.is("keys") {
+    } else if is_word(word, "keys") {
         Some(Directive::Keys)
-    } else if word.is("columns") {
+    } else if is_word(word, "columns") {
         Some(Directive::Columns)
     } else {
         None
@@ -101,15 +102,15 @@ fn table_directive(word: &Txt) -> Option<Directive>
 fn document_directive(word: &Txt) -> Option<Directive>
     ensures { result ≡ named.document_directive word.now }
 {
-    if word.is("nodeid") {
+    if is_word(word, "nodeid") {
         Some(Directive::NodeId)
-    } else if word.is("binary") {
+    } else if is_word(word, "binary") {
         Some(Directive::Binary)
-    } else if word.is("channel") {
+    } else if is_word(word, "channel") {
         Some(Directive::Channel)
-    } else if word.is("batch") {
+    } else if is_word(word, "batch") {
         Some(Directive::Batch)
-    } else if word.is("commit") {
+    } else if is_word(word, "commit") {
         Some(Directive::Commit)
     } else {
         None
@@ -119,15 +120,15 @@ fn document_directive(word: &Txt) -> Option<Directive>
 fn is_skipped(word: &Txt) -> bool
     ensures { result ≡ named.is_skipped word.now }
 {
-    word.is("schema")
-        || word.is("catalog")
-        || word.is("stats_columns")
-        || word.is("stats")
-        || word.is("ts")
+    is_word(word, "schema")
+        || is_word(word, "catalog")
+        || is_word(word, "stats_columns")
+        || is_word(word, "stats")
+        || is_word(word, "ts")
 }
 
 fn is_refused(word: &Txt) -> bool
     ensures { result ≡ named.is_refused word.now }
 {
-    word.is("sql") || word.is("bsh") || word.is("create")
+    is_word(word, "sql") || is_word(word, "bsh") || is_word(word, "create")
 }

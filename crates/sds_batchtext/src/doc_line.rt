@@ -30,11 +30,3 @@ pub enum DocLine {
     Commit(u64),
     Skipped,
 }
-
-/// The table that a batch is at, where it is at one, and the names that hold for it.
-#[derive(Debug, Drop)]
-pub struct Heading {
-    pub table: Option<Txt>,
-    pub keys: Option<List<Txt>>,
-    pub columns: Option<List<Txt>>,
-}

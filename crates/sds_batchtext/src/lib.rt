@@ -1,9 +1,20 @@
-//! Batch documents: what a document in the CSV data format gives, read from pieces of any size, and how batches are written.
+//! Batch documents: what a document in the CSV data format gives, read from pieces of any size, and how batches are
+//! written.
 #![tactic(auto)]
 
 mod directive;
 mod doc_line;
+mod heading;
+mod line_reading;
+mod position;
+mod reader;
+mod reading;
+mod table_names;
+mod words;
 
-use directive::directive_of;
 pub use directive::Directive;
-pub use doc_line::{DocLine, Heading, NodeLine};
+use directive::directive_of;
+pub use doc_line::{DocLine, NodeLine};
+pub use heading::Heading;
+use position::Position;
+pub use reader::Reader;
