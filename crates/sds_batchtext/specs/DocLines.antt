@@ -42,8 +42,11 @@ names_in [] = None
 names_in (field ∷ fields) = all_names (field ∷ fields)
 
 -- an id of a batch: 1 to 2^62 in decimal digits, which may begin with zeros
+abbrev pub in_range : ℕ → Option ℕ
+in_range id = if nat_le 1 id && nat_le id most_count then Some id else None
+
 abbrev pub id_of : List ℕ → Option ℕ
-id_of text = if is_digit_text text && (nat_le 1 (digits_value text) && nat_le (digits_value text) most_count) then Some (digits_value text) else None
+id_of text = if is_digit_text text then in_range (digits_value text) else None
 
 abbrev pub id_in : List Field → Option ℕ
 id_in (Text text ∷ []) = id_of text

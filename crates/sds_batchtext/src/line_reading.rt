@@ -1,5 +1,5 @@
 //! What a line of a document says by itself.
-ghost use Rattle.std.specs.Prelude.{◌≡◌, IfOk, IfSome, ℕ, List, Option};
+ghost use Rattle.std.specs.Prelude.{◌≡◌, IfOk};
 ghost use Rattle.std.specs.List.{list_all};
 ghost use Rattle.std.specs.Char.{is_ascii_digit};
 ghost use Rattle.sds_batchtext.specs.DocLines as stated;
@@ -18,8 +18,7 @@ pub(crate) fn line_said(
     directive: Directive,
     fields: List<Field>,
 ) -> Result<Option<DocLine>, NoMemory>
-    ensures said { IfOk result (λ said. said ≡ stated.line_said number directive fields) }
-    ensures directive { IfOk result (λ said. IfSome said (λ line. stated.directive_for line ≡ directive)) }
+    ensures { IfOk result (λ said. said ≡ stated.line_said number directive fields) }
 {
     Ok(match directive {
         Directive::Insert => Some(DocLine::Insert(fields)),
@@ -70,6 +69,7 @@ fn names_in(alloc: Global, fields: &List<Field>) -> Result<Option<List<Txt>>, No
     all_names(alloc, fields)
 }
 
+#[tactic(auto, using(crate::proofs::Names::after_none, crate::proofs::Names::after_one))]
 fn all_names(alloc: Global, fields: &[Field]) -> Result<Option<List<Txt>>, NoMemory>
     ensures { IfOk result (λ names. names ≡ stated.all_names fields.now) }
 {
@@ -140,9 +140,18 @@ fn id_written(text: &str) -> Option<u64>
         return None;
     }
     match text.parse::<u64>() {
-        Ok(id) if id >= 1 && id <= MOST_COUNT => Some(id),
-        _ => None,
+        Err(_) => None,
+        Ok(id) => in_range(id),
     }
+}
+
+fn in_range(id: u64) -> Option<u64>
+    ensures { result ≡ stated.in_range id }
+{
+    if id < 1 || id > MOST_COUNT {
+        return None;
+    }
+    Some(id)
 }
 
 fn all_digits(bytes: &[u8]) -> bool

@@ -280,8 +280,8 @@ impl Position {
     fn set_table(&mut self, alloc: Global, name: Txt) -> Result<(), NoMemory>
         ensures { OnOk result ((older : List DocLine) → IsPositionAfter older self.old → IsPositionAfter (line.Table name ∷ older) self.new) }
     {
-        let keys = names_at(alloc, &name, &self.keys)?;
-        let columns = names_at(alloc, &name, &self.columns)?;
+        let keys = names_at(alloc, &name, self.keys.as_slice())?;
+        let columns = names_at(alloc, &name, self.columns.as_slice())?;
         self.heading = Heading {
             table: Some(name),
             keys,

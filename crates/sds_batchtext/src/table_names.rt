@@ -18,13 +18,14 @@ pub(crate) struct TableNames {
 pub(crate) fn names_at(
     alloc: Global,
     table: &Txt,
-    entries: &Vec<TableNames>,
+    entries: &[TableNames],
 ) -> Result<Option<List<Txt>>, NoMemory>
-    ensures { IfOk result (λ names. names ≡ names_at table.now entries.now.items) }
+    ensures { IfOk result (λ names. names ≡ names_at table.now entries.now) }
 {
-    let place = place_of(table, entries.as_slice());
-    if place < entries.len() {
-        return Ok(Some(entries[place].names.twin(alloc)?));
+    for entry in entries {
+        if entry.table == *table {
+            return Ok(Some(entry.names.twin(alloc)?));
+        }
     }
     Ok(None)
 }

@@ -1,0 +1,6 @@
+pub mod Plain
+pub mod Ids
+pub mod Names
+pub mod Entries
+pub mod Said
+pub mod Judged
