@@ -4,3 +4,5 @@ pub mod Names
 pub mod Entries
 pub mod Said
 pub mod Judged
+pub mod Readings
+pub mod Readers

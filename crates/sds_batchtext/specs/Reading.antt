@@ -1,7 +1,7 @@
 -- A document that comes in pieces: what a reader has read, and what it has given.
 use Rattle.std.specs.Prelude.{◌≡◌, ℕ, Bool, true, false, List, [], ◌∷◌, ◌++◌, Option, None, Some, Result, Ok, Err}
 use Rattle.sds_base.specs.declared.memory.NoMemory.{NoMemory}
-use Rattle.sds_line.specs.Splitting.{Fed, Follows, left, lines_in, is_finished}
+use Rattle.sds_line.specs.Splitting.{Fed, Follows, left, lines_in}
 use Rattle.sds_line.specs.declared.line.Line.{Line}
 use Rattle.sds_types.specs.declared.document.BatchDoc.{BatchDoc}
 use Rattle.sds_types.specs.declared.document.End.{End}
@@ -23,7 +23,6 @@ pub record ReaderState : Type 0 where
 -- The reader was fed this text, in whatever pieces, these batches of it were taken, and its end is known or not.
 pub record HasRead (text : List ℕ) (taken : List BatchDoc) (finished : Bool) (reader : ReaderState) : Type 0 where
   pub whole : reader.is_spent ≡ false
-  pub phase : is_finished reader.lines.phase ≡ finished
   pub position : IsPositionAfter (said_in finished text) reader.position
   pub batches : taken ++ reader.ready ≡ batches_in finished text
   pub ending : reader.ending ≡ end_in finished text
@@ -60,7 +59,6 @@ pub record IsReading (text : List ℕ) (taken : List BatchDoc) (finished : Bool)
 
 -- All lines of a text were read, up to the first that may not stand.
 pub record HasReadLines (text : List ℕ) (taken : List BatchDoc) (finished : Bool) (ending : Option End) (lines : Fed) (position : Position) (ready : List BatchDoc) : Type 0 where
-  pub phase : is_finished lines.phase ≡ finished
   pub stands : IsPositionAfter (said_in finished text) position
   pub batches : taken ++ ready ≡ batches_in finished text
   pub ends : ending ≡ broken_in finished text

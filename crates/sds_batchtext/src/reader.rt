@@ -1,8 +1,9 @@
 //! A document that comes in pieces of any size, and its batches as they become whole.
 ghost use Rattle.std.specs.Prelude.{◌≡◌, ◌+◌, ◌^◌, ◌<◌, ◌≤◌, ◌++◌, ℕ, List, Bool, true, false, Some, None, IfOk, OnOk, OnErr, IsErr, MatchOption, length};
 ghost use Rattle.sds_types.specs.declared.document.BatchDoc.{BatchDoc};
-ghost use Rattle.sds_line.specs.Splitting.{is_finished, reach};
-ghost use Rattle.sds_batchtext.specs.Documents.{end_of, node_in};
+ghost use Rattle.sds_line.specs.Splitting.{is_finished, left, next_number, reach};
+ghost use Rattle.sds_batchtext.specs.declared.doc_line.DocLine.{DocLine};
+ghost use Rattle.sds_batchtext.specs.Documents.{end_of, is_unfinished, last_end, node_in};
 
 use crate::reading::read_lines;
 use crate::{NodeLine, Position};
@@ -38,7 +39,8 @@ impl Model for Reader {
 
 impl Reader {
     ghost use Rattle.std.specs.Prelude.{[]};
-    ghost use Rattle.sds_batchtext.specs.Reading.{HasRead, Takes};
+    ghost use Rattle.sds_batchtext.specs.Reading.{HasRead, HasReadLines, IsReading, Takes};
+    ghost use Rattle.sds_batchtext.specs.Positions.{IsPositionAfter};
 
     /// A reader of a document before its first byte.
     pub fn new(alloc: Global) -> Reader
@@ -82,6 +84,14 @@ impl Reader {
 
     /// Reads the lines that are whole.
     fn read(&mut self) -> Result<(), NoMemory>
+        requires whole { self.old.is_spent ≡ false }
+        requires going { self.old.ending ≡ None }
+        ensures read { OnOk result ((text : List ℕ) (taken : List BatchDoc) (finished : Bool) → IsReading text taken finished self.old.lines self.old.position self.old.ready
+            → HasReadLines text taken finished self.new.ending self.new.lines self.new.position self.new.ready) }
+        ensures whole { OnOk result (self.new.is_spent ≡ false) }
+        ensures spent { OnErr result (self.new.is_spent ≡ true) }
+        ensures phase { is_finished self.old.lines.phase ≡ false → is_finished self.new.lines.phase ≡ false }
+        ensures reach { is_finished self.old.lines.phase ≡ false → reach self.new.lines.split ≡ reach self.old.lines.split }
     {
         match read_lines(&mut self.lines, &mut self.position, &mut self.ready) {
             Ok(ending) => {
@@ -123,21 +133,31 @@ impl Reader {
         if self.is_spent {
             return Err(NoMemory);
         }
-        self.lines.finish();
         if let Some(ending) = self.ending {
             return Ok(ending);
         }
+        self.lines.finish();
         self.read()?;
-        let ending = match self.ending {
-            Some(ending) => ending,
-            None => self.last_end(),
-        };
+        Ok(self.end())
+    }
+
+    /// Tells how the document ends whose lines were read, and keeps it.
+    fn end(&mut self) -> End
+        requires { self.old.is_spent ≡ false }
+        ensures { (text : List ℕ) (taken : List BatchDoc) → HasReadLines text taken true self.old.ending self.old.lines self.old.position self.old.ready
+            → (result ≡ end_of text) × HasRead text taken true self.new }
+    {
+        if let Some(ending) = self.ending {
+            return ending;
+        }
+        let ending = self.last_end();
         self.ending = Some(ending);
-        Ok(ending)
+        ending
     }
 
     /// How a document ends whose last line was read.
     fn last_end(&self) -> End
+        ensures { (older : List DocLine) → IsPositionAfter older self.now.position → result ≡ last_end (is_unfinished older) (next_number (left self.now.lines)) }
     {
         if self.position.is_unfinished() {
             End::Broken {
