@@ -1,5 +1,6 @@
 -- A reader of a document between two calls.
-use Rattle.std.proofs.Common.{◌≡◌, ℕ, Bool, true, false, List, [], ◌∷◌, ◌++◌, Option, None, Some, Result, Ok, Err, refl, sym, ap, subst, ◌∙◌}
+use Rattle.std.specs.Prelude.{is_some}
+use Rattle.std.proofs.Common.{◌≡◌, ℕ, Bool, true, false, List, [], ◌∷◌, ◌++◌, Option, None, Some, Result, Ok, Err, OnOk, refl, sym, ap, subst, ◌∙◌}
 use Rattle.std.proofs.Math.Logic.{∥∥₁_map}
 use Rattle.sds_line.proofs.Onward.{lines_go_on, lines_go_on_at_end, refused_lines_stay, refused_lines_stay_at_end}
 use Rattle.sds_line.specs.declared.line.Line.{Line}
@@ -125,16 +126,16 @@ has_ended text taken v ending h whole ends =
       record { whole = whole; position = h.stands; batches = h.batches; ending = ends ∙ ap Some is; follows = λ none. let some : Some ending ≡ None = sym ends ∙ none in absurd (cc) },
     )
 
-pub has_last : (text : List ℕ) (taken : List BatchDoc) (lines : Fed) (position : Position) (ready : List BatchDoc) (ending : End) (o : Option End) → HasReadLines text taken true o lines position ready → o ≡ None
-    → ((older : List DocLine) → IsPositionAfter older position → ending ≡ last_end (is_unfinished older) (next_number (left lines)))
-    → (ending ≡ end_of text) × HasRead text taken true (record { lines = lines; position = position; ready = ready; ending = Some ending; is_spent = false })
-has_last text taken lines position ready ending o h none last =
+pub has_last : (text : List ℕ) (taken : List BatchDoc) (lines : Fed) (position : Position) (ready : List BatchDoc) (ending : End) (o : Option End) (spent : Bool) → HasReadLines text taken true o lines position ready
+    → o ≡ None → spent ≡ false → ((older : List DocLine) → IsPositionAfter older position → ending ≡ last_end (is_unfinished older) (next_number (left lines)))
+    → (ending ≡ end_of text) × HasRead text taken true (record { lines = lines; position = position; ready = ready; ending = Some ending; is_spent = spent })
+has_last text taken lines position ready ending o spent h none whole last =
     let number : next_number (left lines) ≡ (lines_in true text).last.number = number_is text (lines_in true text).lines true lines (h.follows none) refl in
     let is : ending ≡ end_of text = last (said_in true text) h.stands
         ∙ (ap (λ (n : ℕ). last_end (is_unfinished (said_in true text)) n) number
         ∙ ap (λ (o : Option End). end_or o (last_end (is_unfinished (said_in true text)) (lines_in true text).last.number)) (sym none ∙ h.ends)) in (
       is,
-      record { whole = refl; position = h.stands; batches = h.batches; ending = ap Some is; follows = λ none. absurd (cc) },
+      record { whole = whole; position = h.stands; batches = h.batches; ending = ap Some is; follows = λ none. absurd (cc) },
     )
 
 kept : (text later : List ℕ) (taken : List BatchDoc) (finished : Bool) (v : ReaderState) (ending : End) → HasRead text taken false v → v.ending ≡ Some ending
@@ -148,11 +149,15 @@ kept text later taken finished v ending h ends two is = record {
 }
 
 -- later bytes are ignored
-pub ignored : (text piece : List ℕ) (taken : List BatchDoc) (v : ReaderState) (ending : End) → v.ending ≡ Some ending → HasRead text taken false v → HasRead (text ++ piece) taken false v
+ignored : (text piece : List ℕ) (taken : List BatchDoc) (v : ReaderState) (ending : End) → v.ending ≡ Some ending → HasRead text taken false v → HasRead (text ++ piece) taken false v
 ignored text piece taken v ending ends h =
     let on = lines_go_on false text piece in
     let two = stays false text (text ++ piece) on.0 ending on.1 (λ refusal stops. refused_lines_stay false text piece refusal stops) (sym h.ending ∙ ends) in
     kept text (text ++ piece) taken false v ending h ends two two.1
+
+pub ignored_by : (text piece : List ℕ) (taken : List BatchDoc) (v : ReaderState) (o : Option End) → v.ending ≡ o → is_some o ≡ true → HasRead text taken false v → HasRead (text ++ piece) taken false v
+ignored_by text piece taken v None ends some h = absurd (cc)
+ignored_by text piece taken v (Some ending) ends some h = ignored text piece taken v ending ends h
 
 -- and so is the end
 pub ended_before : (text : List ℕ) (taken : List BatchDoc) (finished : Bool) (v : ReaderState) (ending : End) → v.ending ≡ Some ending → HasRead text taken finished v → (ending ≡ end_of text) × HasRead text taken true v
@@ -184,3 +189,12 @@ piece_fed old new piece opened takes fed = ∥∥₁_map fed (λ (f : IsFed old)
 
 pub end_fed : (old new : Fed) → ((text : List ℕ) (taken : List Line) (finished : Bool) → Follows text taken finished old → Follows text taken true new) → ∥ IsFed old ∥₁ → ∥ IsFed new ∥₁
 end_fed old new takes fed = ∥∥₁_map fed (λ (f : IsFed old). record { text = f.text; taken = f.taken; finished = true; follows = takes f.text f.taken f.finished f.follows })
+
+-- what two clauses on success give together
+pub both_ok : {A E : Type 0} (r : Result A E) (P Q R : Type 0) → OnOk r P → OnOk r Q → (P → Q → R) → OnOk r R
+both_ok (Ok x) P Q R p q give = give p q
+both_ok (Err e) P Q R p q give = tt
+
+pub no_ending : (o : Option End) → is_some o ≡ false → o ≡ None
+no_ending None is = refl
+no_ending (Some ending) is = absurd (cc)

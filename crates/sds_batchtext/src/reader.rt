@@ -75,11 +75,13 @@ impl Reader {
         if self.ending.is_some() {
             return Ok(());
         }
-        if self.lines.feed(piece).is_err() {
-            self.is_spent = true;
-            return Err(NoMemory);
+        match self.lines.feed(piece) {
+            Ok(()) => self.read(),
+            Err(NoMemory) => {
+                self.is_spent = true;
+                Err(NoMemory)
+            }
         }
-        self.read()
     }
 
     /// Reads the lines that are whole.
