@@ -6,3 +6,4 @@ pub mod Said
 pub mod Judged
 pub mod Readings
 pub mod Readers
+pub mod Fronts

@@ -7,3 +7,5 @@ pub mod Documents
 pub mod Entries
 pub mod Positions
 pub mod Reading
+pub mod Writing
+pub mod Writable

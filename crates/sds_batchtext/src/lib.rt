@@ -11,6 +11,7 @@ mod reader;
 mod reading;
 mod table_names;
 mod words;
+mod writing;
 
 pub use directive::Directive;
 use directive::directive_of;
@@ -18,3 +19,4 @@ pub use doc_line::{DocLine, NodeLine};
 pub use heading::Heading;
 use position::Position;
 pub use reader::Reader;
+pub use writing::{put_batch, put_head};
