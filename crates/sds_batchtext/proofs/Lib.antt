@@ -7,3 +7,4 @@ pub mod Judged
 pub mod Readings
 pub mod Readers
 pub mod Fronts
+pub mod Joins

@@ -58,10 +58,14 @@ same_names (name ∷ names) (other ∷ others) = bytes_eq name other && same_nam
 abbrev pub same_heading : DocRow → DocRow → Bool
 same_heading before row = bytes_eq before.table row.table && (same_names before.keys row.keys && same_names before.columns row.columns)
 
--- the lines of rows after another row: the heading stands before a row whose heading differs from that of the row before
+-- the heading stands before a row whose heading differs from that of the row before
+abbrev pub heading_after : DocRow → DocRow → List (List ℕ)
+heading_after before row = if same_heading before row then [] else heading_lines row
+
+-- the lines of rows after another row
 abbrev pub later_lines : DocRow → List DocRow → List (List ℕ)
 later_lines before [] = []
-later_lines before (row ∷ rows) = (if same_heading before row then [] else heading_lines row) ++ (row_lines row ++ later_lines row rows)
+later_lines before (row ∷ rows) = heading_after before row ++ (row_lines row ++ later_lines row rows)
 
 abbrev pub lines_of_rows : List DocRow → List (List ℕ)
 lines_of_rows [] = []

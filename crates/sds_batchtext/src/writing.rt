@@ -69,9 +69,17 @@ fn put_rows(rows: &[DocRow], out: &mut Vec<u8>) -> Result<(), NoMemory>
     ensures ok { OnOk result (out.new.items ≡ out.old.items ++ stated.text_of_lines (stated.lines_of_rows rows.now)) }
     ensures front { Extends out.old.items out.new.items }
 {
-    let [first, others @ ..] = rows else {
-        return Ok(());
-    };
+    match rows {
+        [] => Ok(()),
+        [first, others @ ..] => put_from(first, others, out),
+    }
+}
+
+/// Puts the first row of a batch, and those after it.
+fn put_from(first: &DocRow, others: &[DocRow], out: &mut Vec<u8>) -> Result<(), NoMemory>
+    ensures ok { OnOk result (out.new.items ≡ out.old.items ++ stated.text_of_lines (stated.lines_of_rows (first.now ∷ others.now))) }
+    ensures front { Extends out.old.items out.new.items }
+{
     put_heading(first, out)?;
     put_row(first, out)?;
     put_later(first, others, out)
@@ -94,10 +102,19 @@ fn put_next(before: &DocRow, row: &DocRow, out: &mut Vec<u8>) -> Result<(), NoMe
         ≡ out.old.items ++ stated.text_of_lines (stated.later_lines before.now (row.now ∷ rows))) }
     ensures front { Extends out.old.items out.new.items }
 {
-    if !has_heading_of(row, before) {
-        put_heading(row, out)?;
-    }
+    put_heading_after(before, row, out)?;
     put_row(row, out)
+}
+
+/// Puts the heading of a row where it isn't that of the row before.
+fn put_heading_after(before: &DocRow, row: &DocRow, out: &mut Vec<u8>) -> Result<(), NoMemory>
+    ensures ok { OnOk result (out.new.items ≡ out.old.items ++ stated.text_of_lines (stated.heading_after before.now row.now)) }
+    ensures front { Extends out.old.items out.new.items }
+{
+    if has_heading_of(row, before) {
+        return Ok(());
+    }
+    put_heading(row, out)
 }
 
 /// Whether two rows have the same table, keys and columns.
