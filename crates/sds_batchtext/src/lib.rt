@@ -10,6 +10,14 @@ mod position;
 mod reader;
 mod reading;
 mod table_names;
+#[cfg(test)]
+mod tests;
+#[cfg(test)]
+mod tests_documents;
+#[cfg(test)]
+mod tests_listing;
+#[cfg(test)]
+mod tests_table;
 mod words;
 mod writing;
 
