@@ -8,3 +8,4 @@ pub mod Readings
 pub mod Readers
 pub mod Fronts
 pub mod Joins
+pub mod Prefixes

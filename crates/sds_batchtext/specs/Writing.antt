@@ -37,13 +37,13 @@ abbrev pub old_lines : Option (List Field) → List (List ℕ)
 old_lines None = []
 old_lines (Some values) = values_line (codes "old,") values ∷ []
 
-abbrev pub event_lines : Event → DocRow → List (List ℕ)
-event_lines event.Insert row = values_line (codes "insert,") row.new ∷ []
-event_lines event.Update row = old_lines row.old ++ (codes "update," ++ (written_line row.new ++ 44 ∷ written_line row.key)) ∷ []
-event_lines event.Delete row = old_lines row.old ++ values_line (codes "delete,") row.key ∷ []
+abbrev pub event_line : Event → DocRow → List ℕ
+event_line event.Insert row = values_line (codes "insert,") row.new
+event_line event.Update row = codes "update," ++ (written_line row.new ++ 44 ∷ written_line row.key)
+event_line event.Delete row = values_line (codes "delete,") row.key
 
 abbrev pub row_lines : DocRow → List (List ℕ)
-row_lines row = event_lines row.event row
+row_lines row = old_lines row.old ++ event_line row.event row ∷ []
 
 -- the table of a row, its keys and its columns
 abbrev pub heading_lines : DocRow → List (List ℕ)

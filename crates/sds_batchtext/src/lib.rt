@@ -5,6 +5,7 @@
 mod directive;
 mod doc_line;
 mod heading;
+mod laws;
 mod line_reading;
 mod position;
 mod reader;
@@ -12,10 +13,6 @@ mod reading;
 mod table_names;
 #[cfg(test)]
 mod tests;
-#[cfg(test)]
-mod tests_documents;
-#[cfg(test)]
-mod tests_listing;
 #[cfg(test)]
 mod tests_table;
 mod words;
@@ -25,6 +22,7 @@ pub use directive::Directive;
 use directive::directive_of;
 pub use doc_line::{DocLine, NodeLine};
 pub use heading::Heading;
+pub use laws::batches_go_on;
 use position::Position;
 pub use reader::Reader;
 pub use writing::{put_batch, put_head};

@@ -145,18 +145,20 @@ fn put_row(row: &DocRow, out: &mut Vec<u8>) -> Result<(), NoMemory>
     ensures ok { OnOk result (out.new.items ≡ out.old.items ++ stated.text_of_lines (stated.row_lines row.now)) }
     ensures front { Extends out.old.items out.new.items }
 {
+    put_old(&row.old, out)?;
+    put_event(row, out)
+}
+
+fn put_event(row: &DocRow, out: &mut Vec<u8>) -> Result<(), NoMemory>
+    ensures ok { OnOk result (out.new.items ≡ out.old.items ++ stated.text_of_lines (stated.event_line row.now.event row.now ∷ [])) }
+    ensures front { Extends out.old.items out.new.items }
+{
     let new = row.new.inner().as_slice();
     let key = row.key.inner().as_slice();
     match row.event {
         Event::Insert => put_values(b"insert,", new, out),
-        Event::Update => {
-            put_old(&row.old, out)?;
-            put_update(new, key, out)
-        }
-        Event::Delete => {
-            put_old(&row.old, out)?;
-            put_values(b"delete,", key, out)
-        }
+        Event::Update => put_update(new, key, out),
+        Event::Delete => put_values(b"delete,", key, out),
     }
 }
 
