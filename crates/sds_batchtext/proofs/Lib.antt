@@ -9,3 +9,8 @@ pub mod Readers
 pub mod Fronts
 pub mod Joins
 pub mod Prefixes
+pub mod PlainLines
+pub mod Plays
+pub mod WrittenBatches
+pub mod WrittenDocuments
+pub mod Ordered

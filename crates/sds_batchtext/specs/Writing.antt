@@ -83,6 +83,13 @@ lines_of_batches (batch ∷ batches) = lines_of_batch batch ++ lines_of_batches 
 abbrev pub head_lines : List ℕ → List (List ℕ)
 head_lines node = name_line (codes "nodeid,") node ∷ (codes "binary,BASE64" ∷ [])
 
+-- the text of the head, and of a batch
+abbrev pub head_text : List ℕ → List ℕ
+head_text node = text_of_lines (head_lines node)
+
+abbrev pub batch_text : BatchDoc → List ℕ
+batch_text batch = text_of_lines (lines_of_batch batch)
+
 -- The written form of a document of this node with these batches.
 abbrev pub text_of : List ℕ → List BatchDoc → List ℕ
 text_of node batches = text_of_lines (head_lines node ++ lines_of_batches batches)

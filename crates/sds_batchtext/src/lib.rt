@@ -22,7 +22,7 @@ pub use directive::Directive;
 use directive::directive_of;
 pub use doc_line::{DocLine, NodeLine};
 pub use heading::Heading;
-pub use laws::batches_go_on;
+pub use laws::{batches_go_on, documents_are_written_in_order, written_documents_read_back};
 use position::Position;
 pub use reader::Reader;
 pub use writing::{put_batch, put_head};

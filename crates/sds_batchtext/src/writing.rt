@@ -18,7 +18,7 @@ use sds_value::{DocRow, Event, Field};
 /// memory leaves `out` as it was. The form is that of the SymmetricDS guide's appendix on the CSV data format.
 pub fn put_head(node: &str, out: &mut Vec<u8>) -> Result<(), NoMemory>
     requires { IsTrue (is_name_text (chars node.now)) }
-    ensures ok { OnOk result (out.new.items ≡ out.old.items ++ stated.text_of_lines (stated.head_lines (chars node.now))) }
+    ensures ok { OnOk result (out.new.items ≡ out.old.items ++ stated.head_text (chars node.now)) }
     ensures err { OnErr result (out.new.items ≡ out.old.items) }
 {
     let start = out.len();
@@ -44,7 +44,7 @@ fn put_head_lines(node: &[u8], out: &mut Vec<u8>) -> Result<(), NoMemory>
 /// line has more than 1,048,576 bytes.
 pub fn put_batch(batch: &BatchDoc, out: &mut Vec<u8>) -> Result<(), NoMemory>
     requires { IsTrue (is_writable batch.now) }
-    ensures ok { OnOk result (out.new.items ≡ out.old.items ++ stated.text_of_lines (stated.lines_of_batch batch.now)) }
+    ensures ok { OnOk result (out.new.items ≡ out.old.items ++ stated.batch_text batch.now) }
     ensures err { OnErr result (out.new.items ≡ out.old.items) }
 {
     let start = out.len();
@@ -56,7 +56,7 @@ pub fn put_batch(batch: &BatchDoc, out: &mut Vec<u8>) -> Result<(), NoMemory>
 }
 
 fn put_whole_batch(batch: &BatchDoc, out: &mut Vec<u8>) -> Result<(), NoMemory>
-    ensures ok { OnOk result (out.new.items ≡ out.old.items ++ stated.text_of_lines (stated.lines_of_batch batch.now)) }
+    ensures ok { OnOk result (out.new.items ≡ out.old.items ++ stated.batch_text batch.now) }
     ensures front { Extends out.old.items out.new.items }
 {
     put_name(b"channel,", &batch.channel, out)?;
