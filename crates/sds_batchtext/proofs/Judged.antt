@@ -1,5 +1,5 @@
 -- What is judged of a line, step by step.
-use Rattle.std.proofs.Common.{subst, ◌≡◌, ℕ, Bool, true, false, List, drop, refl, sym, ap, ◌∙◌, Option, Some, None, IfSome, Result, Ok, Err, IfOk, if◌then◌else◌}
+use Rattle.std.proofs.Common.{subst, ◌≡◌, ℕ, Bool, true, List, drop, sym, ap, ◌∙◌, Option, Some, IfSome, Result, Ok, Err, IfOk, if◌then◌else◌}
 use Rattle.sds_types.specs.declared.document.DocumentCause.{DocumentCause}
 use Rattle.sds_types.specs.declared.document.DocumentCause.TheVariants.{OutOfPlace}
 use Rattle.sds_value.specs.declared.row.Field.{Field}

@@ -1,5 +1,5 @@
 -- Names of fields, one after another.
-use Rattle.std.proofs.Common.{◌≡◌, ℕ, List, [], ◌∷◌, ◌++◌, refl, sym, ap, ◌∙◌, append_assoc, Option, Some, None}
+use Rattle.std.proofs.Common.{◌≡◌, ℕ, List, [], ◌∷◌, ◌++◌, refl, ap, append_assoc, Option, Some, None}
 use Rattle.sds_batchtext.specs.DocLines.{onto}
 
 -- names after these

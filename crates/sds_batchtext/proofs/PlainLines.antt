@@ -1,5 +1,5 @@
 -- What the lines of a written document read as: a plain directive, and names, a number or values after it.
-use Rattle.std.proofs.Common.{◌≡◌, ℕ, ◌<◌, ◌^◌, List, [], ◌∷◌, ◌++◌, length, map, refl, sym, ap, ◌∙◌, Bool, true, false, ◌&&◌, nat_eq, nat_lt, Result, Ok, Err, arith, rules, append_assoc}
+use Rattle.std.proofs.Common.{◌≡◌, ℕ, ◌<◌, ◌^◌, List, [], ◌∷◌, ◌++◌, length, map, refl, sym, ap, ◌∙◌, true, false, nat_eq, nat_lt, Result, Ok, arith, rules, append_assoc}
 use Rattle.std.proofs.lemmas.Bool.Decides.{nat_tests}
 use Rattle.std.proofs.lemmas.Fmt.{digits_decimal, digits_value-decimal}
 use Rattle.std.proofs.lemmas.List.{append-nil}
@@ -8,7 +8,6 @@ use Rattle.std.proofs.lemmas.Str.Parse.{IsNumeralModel, numerals_by_weight}
 use Rattle.std.specs.Char.{is_ascii_digit}
 use Rattle.std.specs.Fmt.{decimal}
 use Rattle.std.specs.List.{list_all}
-use Rattle.std.specs.Prelude.{codes}
 use Rattle.std.specs.Str.{encode_utf8_all}
 use Rattle.sds_line.proofs.Back.{text_back, further_back}
 use Rattle.sds_line.proofs.Comparisons.{both}
@@ -17,9 +16,9 @@ use Rattle.sds_line.specs.declared.place.Place.{Place}
 use Rattle.sds_line.specs.declared.place.Place.TheVariants.{Before, Plain}
 use Rattle.sds_line.specs.declared.refusal.LineRefusal.{LineRefusal}
 use Rattle.sds_line.specs.Places.{is_spacing}
-use Rattle.sds_line.specs.Reading.{HalfLine, kept_before, without_end_spacing, rest_of_line, then_read, line_of, with_byte}
+use Rattle.sds_line.specs.Reading.{HalfLine, kept_before, without_end_spacing, rest_of_line, then_read, with_byte}
 use Rattle.sds_line.specs.Written.{written_line, written_field, further_fields, are_fields}
-use Rattle.sds_value.proofs.Characters.{name_ascii, all_small}
+use Rattle.sds_value.proofs.Characters.{name_ascii}
 use Rattle.sds_value.specs.declared.row.Field.{Field}
 use Rattle.sds_value.specs.declared.row.Field.TheVariants.{Null, Text}
 use Rattle.sds_value.specs.Digits.{digits_value}

@@ -1,9 +1,9 @@
 -- What the lines of a text say after what earlier lines said.
-use Rattle.std.proofs.Common.{◌≡◌, ℕ, ◌+◌, ◌≤◌, Bool, true, false, ◌&&◌, ◌||◌, not, List, [], ◌∷◌, ◌++◌, length, drop, Option, None, Some, Result, Ok, Err, refl, sym, ap, ◌∙◌, append_assoc, if◌then◌else◌}
+use Rattle.std.proofs.Common.{◌≡◌, ℕ, ◌+◌, ◌≤◌, Bool, true, false, ◌&&◌, ◌||◌, not, List, [], ◌∷◌, ◌++◌, length, drop, Option, None, Some, Result, Ok, Err, refl, ap, ◌∙◌, append_assoc, if◌then◌else◌}
 use Rattle.std.specs.Prelude.{is_some}
 use Rattle.sds_line.proofs.Alone.{whole_line}
 use Rattle.sds_line.specs.Reading.{line_of}
-use Rattle.sds_line.specs.Splitting.{Split, behind, numbered, line_feeds, lines_from}
+use Rattle.sds_line.specs.Splitting.{Split, line_feeds, lines_from}
 use Rattle.sds_line.specs.declared.refusal.LineRefusal.{LineRefusal}
 use Rattle.sds_types.specs.declared.document.DocumentCause.{DocumentCause}
 use Rattle.sds_types.specs.declared.document.DocumentCause.TheVariants.{BadFields, CommitMismatch}
@@ -60,7 +60,7 @@ plays_then first middle last lines more one two = λ n text.
     let q = two p.0 text in (
       q.0,
       ap (λ (bytes : List ℕ). outcome_of first (lines_from n bytes)) (ap (λ (l : List ℕ). l ++ text) (text_append lines more) ∙ append_assoc (text_of_lines lines) (text_of_lines more) text)
-      ∙ (p.1 ∙ q.1),
+          ∙ (p.1 ∙ q.1),
     )
 
 -- a line that may stand, with the values and the id that it asks for

@@ -7,7 +7,7 @@ use Rattle.sds_types.specs.declared.document.BatchDoc.{BatchDoc}
 use Rattle.sds_types.specs.declared.document.DocumentCause.{DocumentCause}
 use Rattle.sds_types.specs.declared.document.End.{End}
 use Rattle.sds_batchtext.specs.declared.doc_line.DocLine.{DocLine}
-use Rattle.sds_batchtext.specs.Documents.{and_one, batch_said, batches_of, batches_in, said_in}
+use Rattle.sds_batchtext.specs.Documents.{and_one, batch_said, batches_of, batches_in}
 use Rattle.sds_batchtext.specs.Judging.{judged, if_judged, lines_said, broken_line}
 use Rattle.sds_batchtext.proofs.Readers.{lines_further, lines_stay}
 

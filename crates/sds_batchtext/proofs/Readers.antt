@@ -32,7 +32,7 @@ lines_further older (line ∷ front) rest none = by (judged older line.number li
   where
     by : (j : Result DocLine DocumentCause) → judged older line.number line.fields ≡ j
         → ((said : DocLine) → broken_line (said ∷ older) front ≡ None → (lines_said (said ∷ older) (front ++ rest) ≡ lines_said (lines_said (said ∷ older) front) rest)
-            × (broken_line (said ∷ older) (front ++ rest) ≡ broken_line (lines_said (said ∷ older) front) rest))
+        × (broken_line (said ∷ older) (front ++ rest) ≡ broken_line (lines_said (said ∷ older) front) rest))
         → (lines_said older (line ∷ front ++ rest) ≡ lines_said (lines_said older (line ∷ front)) rest) × (broken_line older (line ∷ front ++ rest) ≡ broken_line (lines_said older (line ∷ front)) rest)
     by (Err cause) is later = let some : Some (Broken line.number cause) ≡ None = sym (ap (broken_by older line.number front) is) ∙ none in absurd (cc)
     by (Ok said) is later =
@@ -51,7 +51,7 @@ lines_stay older (line ∷ front) rest ending some = by (judged older line.numbe
   where
     by : (j : Result DocLine DocumentCause) → judged older line.number line.fields ≡ j
         → ((said : DocLine) → broken_line (said ∷ older) front ≡ Some ending → (lines_said (said ∷ older) (front ++ rest) ≡ lines_said (said ∷ older) front)
-            × (broken_line (said ∷ older) (front ++ rest) ≡ Some ending))
+        × (broken_line (said ∷ older) (front ++ rest) ≡ Some ending))
         → (lines_said older (line ∷ front ++ rest) ≡ lines_said older (line ∷ front)) × (broken_line older (line ∷ front ++ rest) ≡ Some ending)
     by (Err cause) is later = (
       ap (said_by older (front ++ rest)) is ∙ sym (ap (said_by older front) is),
@@ -72,13 +72,14 @@ stays finished text later rest ending lines same broken = by (broken_line [] (li
     by_stop : broken_line [] (lines_in false text).lines ≡ None → (o : Option LineRefusal) → (lines_in false text).stop ≡ o → (said_in finished later ≡ said_in false text) × (broken_in finished later ≡ Some ending)
     by_stop is None goes =
         let none : None ≡ Some ending = sym (ap (λ (o : Option End). first_end o (bad_line (lines_in false text).stop (lines_in false text).last.number)) is
-            ∙ ap (λ (o : Option LineRefusal). bad_line o (lines_in false text).last.number) goes) ∙ broken in
+        ∙ ap (λ (o : Option LineRefusal). bad_line o (lines_in false text).last.number) goes) ∙ broken in
         absurd (cc)
     by_stop is (Some refusal) stops =
         let one : lines_in finished later ≡ lines_in false text = same refusal stops in (
           ap (λ (s : Split). lines_said [] s.lines) one,
           ap (λ (s : Split). first_end (broken_line [] s.lines) (bad_line s.stop s.last.number)) one ∙ broken,
         )
+
     by : (o : Option End) → broken_line [] (lines_in false text).lines ≡ o → (said_in finished later ≡ said_in false text) × (broken_in finished later ≡ Some ending)
     by None is = by_stop is (lines_in false text).stop refl
     by (Some first) is =
@@ -121,7 +122,7 @@ pub has_ended : (text : List ℕ) (taken : List BatchDoc) (v : ReaderState) (end
     → (ending ≡ end_of text) × HasRead text taken true v
 has_ended text taken v ending h whole ends =
     let is : ending ≡ end_of text =
-        ap (λ (o : Option End). end_or o (last_end (is_unfinished (said_in true text)) (lines_in true text).last.number)) (sym ends ∙ h.ends) in (
+    ap (λ (o : Option End). end_or o (last_end (is_unfinished (said_in true text)) (lines_in true text).last.number)) (sym ends ∙ h.ends) in (
       is,
       record { whole = whole; position = h.stands; batches = h.batches; ending = ends ∙ ap Some is; follows = λ none. let some : Some ending ≡ None = sym ends ∙ none in absurd (cc) },
     )
@@ -132,8 +133,8 @@ pub has_last : (text : List ℕ) (taken : List BatchDoc) (lines : Fed) (position
 has_last text taken lines position ready ending o spent h none whole last =
     let number : next_number (left lines) ≡ (lines_in true text).last.number = number_is text (lines_in true text).lines true lines (h.follows none) refl in
     let is : ending ≡ end_of text = last (said_in true text) h.stands
-        ∙ (ap (λ (n : ℕ). last_end (is_unfinished (said_in true text)) n) number
-        ∙ ap (λ (o : Option End). end_or o (last_end (is_unfinished (said_in true text)) (lines_in true text).last.number)) (sym none ∙ h.ends)) in (
+    ∙ (ap (λ (n : ℕ). last_end (is_unfinished (said_in true text)) n) number
+    ∙ ap (λ (o : Option End). end_or o (last_end (is_unfinished (said_in true text)) (lines_in true text).last.number)) (sym none ∙ h.ends)) in (
       is,
       record { whole = whole; position = h.stands; batches = h.batches; ending = ap Some is; follows = λ none. absurd (cc) },
     )

@@ -1,12 +1,12 @@
 -- The lines of a document, one after another, as its text comes.
-use Rattle.std.proofs.Common.{◌≡◌, ◌≢◌, ℕ, ◌<◌, Bool, true, false, List, [], ◌∷◌, ◌++◌, length, Option, None, Some, Result, Ok, Err, refl, sym, ap, subst, ◌∙◌, arith, append-nil, append_assoc}
+use Rattle.std.proofs.Common.{◌≡◌, ◌≢◌, ℕ, ◌<◌, Bool, List, [], ◌∷◌, ◌++◌, length, Option, None, Some, Result, Ok, Err, refl, sym, ap, subst, ◌∙◌, arith, append-nil, append_assoc}
 use Rattle.std.proofs.lemmas.List.{append_cancel_left}
 use Rattle.std.proofs.Math.Bridge.{le_prop}
 use Rattle.std.proofs.Math.Logic.{∥∥₁_elim, ∥∥₁_map}
 use Rattle.sds_line.specs.declared.line.Line.{Line}
 use Rattle.sds_line.specs.declared.refusal.LineRefusal.{LineRefusal}
 use Rattle.sds_line.specs.declared.refusal.LineRefusal.TheVariants as line_refusal
-use Rattle.sds_line.specs.Splitting.{Split, Fed, Follows, Answers, IsEnd, is_finished, left, lines_in, next_number, number_or}
+use Rattle.sds_line.specs.Splitting.{Split, Fed, Follows, Answers, IsEnd, left, lines_in, next_number, number_or}
 use Rattle.sds_types.specs.declared.document.BatchDoc.{BatchDoc}
 use Rattle.sds_types.specs.declared.document.DocumentCause.{DocumentCause}
 use Rattle.sds_types.specs.declared.document.DocumentCause.TheVariants.{BadLine}
@@ -14,7 +14,7 @@ use Rattle.sds_types.specs.declared.document.End.{End}
 use Rattle.sds_types.specs.declared.document.End.TheVariants.{Broken}
 use Rattle.sds_batchtext.specs.declared.doc_line.DocLine.{DocLine}
 use Rattle.sds_batchtext.specs.declared.position.Position.{Position}
-use Rattle.sds_batchtext.specs.Documents.{and_one, batch_said, batches_of, said_in, broken_in, bad_line, first_end}
+use Rattle.sds_batchtext.specs.Documents.{and_one, batch_said, batches_of, said_in, bad_line, first_end}
 use Rattle.sds_batchtext.specs.Judging.{judged, if_judged, lines_said, broken_line}
 use Rattle.sds_batchtext.specs.Positions.{IsPositionAfter, HasTaken}
 use Rattle.sds_batchtext.specs.Reading.{IsFed, IsReading, HasReadLines}
@@ -67,6 +67,7 @@ read_on text taken finished old new line position later before after refused tak
   where
     rest : (left old).lines ≡ line ∷ (left new).lines
     rest = next_line text r.passed line finished old new r.follows (takes text r.passed finished r.follows)
+
     by : (j : Result DocLine DocumentCause) → judged r.older line.number line.fields ≡ j → HasTaken r.older j refused later before after → IsReading text taken finished new later after
     by (Err cause) is t = let none : refused ≡ Some cause = t.0 in absurd (cc)
     by (Ok said) is t = record {
@@ -94,13 +95,14 @@ read_stops text taken finished old new line position later before after refused 
   where
     rest : (left old).lines ≡ line ∷ (left new).lines
     rest = next_line text r.passed line finished old new r.follows (takes text r.passed finished r.follows)
+
     by : (j : Result DocLine DocumentCause) → judged r.older line.number line.fields ≡ j → HasTaken r.older j refused later before after → HasReadLines text taken finished (Some (Broken line.number cause)) new later after
     by (Ok said) is t = let none : refused ≡ None = t.0 in absurd (cc)
     by (Err why) is t =
         let all : said_in finished text ≡ r.older = r.said ∙ (ap (lines_said r.older) rest
-            ∙ ap (λ (j : Result DocLine DocumentCause). if_judged j (λ cause. r.older) (λ said. lines_said (said ∷ r.older) (left new).lines)) is) in
+        ∙ ap (λ (j : Result DocLine DocumentCause). if_judged j (λ cause. r.older) (λ said. lines_said (said ∷ r.older) (left new).lines)) is) in
         let first : broken_line [] (lines_in finished text).lines ≡ Some (Broken line.number why) = r.broken ∙ (ap (broken_line r.older) rest
-            ∙ ap (λ (j : Result DocLine DocumentCause). if_judged j (λ cause. Some (Broken line.number cause)) (λ said. broken_line (said ∷ r.older) (left new).lines)) is) in
+        ∙ ap (λ (j : Result DocLine DocumentCause). if_judged j (λ cause. Some (Broken line.number cause)) (λ said. broken_line (said ∷ r.older) (left new).lines)) is) in
         let same : Some cause ≡ Some why = sym stops ∙ t.0 in
         record {
           stands = subst (λ (l : List DocLine). IsPositionAfter l later) (sym all) t.1;

@@ -1,5 +1,5 @@
 -- The written lines of a batch read back as that batch.
-use Rattle.std.proofs.Common.{◌≡◌, ℕ, ◌+◌, ◌-◌, ◌<◌, ◌≤◌, ◌^◌, Bool, true, false, ◌&&◌, ◌==◌, nat_lt, nat_le, List, [], ◌∷◌, ◌++◌, length, length-append, map, take, drop, Option, None, Some, Result, Ok, Err, refl, sym, ap, subst, ◌∙◌, arith, append_assoc, if◌then◌else◌}
+use Rattle.std.proofs.Common.{◌≡◌, ℕ, ◌+◌, ◌<◌, ◌≤◌, ◌^◌, Bool, true, false, ◌&&◌, ◌==◌, nat_lt, nat_le, List, [], ◌∷◌, ◌++◌, length, length-append, map, take, drop, Option, None, Some, Ok, refl, sym, ap, ◌∙◌, arith, if◌then◌else◌}
 use Rattle.std.proofs.Math.Seq.{take-append_seam, drop-append_seam}
 use Rattle.std.proofs.lemmas.Bool.Decides.{nat_tests}
 use Rattle.std.proofs.lemmas.List.Folds.{list_all-append}
@@ -7,7 +7,7 @@ use Rattle.std.proofs.lemmas.Slice.Eq.{bytes_eq-Decides}
 use Rattle.std.specs.Fmt.{decimal}
 use Rattle.std.specs.List.{list_all}
 use Rattle.std.specs.Prelude.{codes, is_some, is_none}
-use Rattle.std.specs.Str.{bytes_eq, encode_utf8_all}
+use Rattle.std.specs.Str.{bytes_eq}
 use Rattle.sds_line.proofs.Comparisons.{both, eq_from, le_from}
 use Rattle.sds_line.specs.Reading.{line_of}
 use Rattle.sds_line.specs.Written.{written_line, are_fields}
@@ -15,25 +15,23 @@ use Rattle.sds_types.specs.Limits.{most_count, most_line_bytes}
 use Rattle.sds_types.specs.declared.document.BatchDoc.{BatchDoc}
 use Rattle.sds_value.specs.Digits.{digits_value, is_digit_text}
 use Rattle.sds_value.specs.Names.{is_name_text}
-use Rattle.sds_value.specs.declared.kind.Binary.{Binary}
 use Rattle.sds_value.specs.declared.kind.Binary.TheVariants.{Base64}
 use Rattle.sds_value.specs.declared.row.DocRow.{DocRow}
 use Rattle.sds_value.specs.declared.row.Event.{Event}
 use Rattle.sds_value.specs.declared.row.Event.TheVariants as event
 use Rattle.sds_value.specs.declared.row.Field.{Field}
 use Rattle.sds_value.specs.declared.row.Field.TheVariants.{Text}
-use Rattle.sds_batchtext.specs.declared.directive.Directive.{Directive}
 use Rattle.sds_batchtext.specs.declared.directive.Directive.TheVariants as directive
 use Rattle.sds_batchtext.specs.declared.doc_line.DocLine.{DocLine}
-use Rattle.sds_batchtext.specs.declared.doc_line.DocLine.TheVariants.{Channel, Batch, Table, Keys, Columns, Insert, Update, Old, Delete, Commit}
+use Rattle.sds_batchtext.specs.declared.doc_line.DocLine.TheVariants.{Table, Keys, Columns, Insert, Update, Old, Delete}
 use Rattle.sds_batchtext.specs.declared.heading.Heading.{Heading}
-use Rattle.sds_batchtext.specs.DocLines.{said, name_in, names_in, all_names, onto, id_in, id_of, in_range}
-use Rattle.sds_batchtext.specs.Documents.{and_one, batches_of, given_text, row_of, rows_of}
-use Rattle.sds_batchtext.specs.Judging.{given, is_complete, has_place, may_stand}
+use Rattle.sds_batchtext.specs.DocLines.{said, name_in, names_in, all_names, onto, id_in, in_range}
+use Rattle.sds_batchtext.specs.Documents.{batches_of, row_of, rows_of}
+use Rattle.sds_batchtext.specs.Judging.{given, is_complete}
 use Rattle.sds_batchtext.specs.LookingBack.{node_of, binary_of, channel_of, batch_lines, commit_lines, is_open, last_batch, table_of, keys_of, columns_of, heading_at, heading_of, pending_old}
-use Rattle.sds_batchtext.specs.Writable.{are_names, is_old, has_sides, is_row, is_old_text, is_row_text}
-use Rattle.sds_batchtext.specs.Writing.{name_line, number_line, names_line, values_line, old_lines, event_line, row_lines, heading_lines, heading_after, later_lines, lines_of_rows, same_heading}
-use Rattle.sds_batchtext.proofs.PlainLines.{name_back, names_back, number_back, values_back, written_append, fields_append, decimal_digits, decimal_value, decimal_some}
+use Rattle.sds_batchtext.specs.Writable.{are_names, is_old, has_sides, is_row_text}
+use Rattle.sds_batchtext.specs.Writing.{name_line, names_line, values_line, event_line, row_lines}
+use Rattle.sds_batchtext.proofs.PlainLines.{name_back, names_back, values_back, written_append, fields_append, decimal_digits, decimal_value, decimal_some}
 use Rattle.sds_batchtext.proofs.Plays.{Plays, plays_line, plays_then, judged_ok, stands, stands_after}
 
 -- A BATCH IS OPEN with this id, under this heading, after these rows and these whole batches, and with this old row that waits
@@ -114,7 +112,6 @@ some_names : (names : List (List ℕ)) → are_names names ≡ true → (name : 
 some_names [] is = absurd (cc)
 some_names (name ∷ others) is = (name, others, refl)
 
-
 keys_line_reads : (names : List (List ℕ)) → are_names names ≡ true → line_of (names_line (codes "keys") names) ≡ Ok (Text (codes "keys") ∷ map (λ n. Text n) names)
 keys_line_reads [] is = absurd (cc)
 keys_line_reads (name ∷ names) is = let two = both (is_name_text name) (list_all is_name_text names) (both _ _ is).1 in names_back name names (Text (codes "keys") ∷ []) two.0 two.1
@@ -155,7 +152,7 @@ heading_step older id heading rows whole channel table keys columns inside is_ta
     judged_ok (Keys keys ∷ (Table table ∷ older)) n (Text (codes "columns") ∷ map (λ n. Text n) columns) directive.Columns (Columns columns) refl
     (stands (Keys keys ∷ (Table table ∷ older)) directive.Columns refl (and_true (is_open older) true open_here refl)) (names_said columns Columns is_columns) refl refl) in (
       plays_then older (Table table ∷ older) (heading_lines_said table keys columns older) (name_line (codes "table,") table ∷ []) (names_line (codes "keys") keys ∷ (names_line (codes "columns") columns ∷ [])) one
-      (plays_then (Table table ∷ older) (Keys keys ∷ (Table table ∷ older)) (heading_lines_said table keys columns older) (names_line (codes "keys") keys ∷ []) (names_line (codes "columns") columns ∷ []) two three),
+          (plays_then (Table table ∷ older) (Keys keys ∷ (Table table ∷ older)) (heading_lines_said table keys columns older) (names_line (codes "keys") keys ∷ []) (names_line (codes "columns") columns ∷ []) two three),
       record {
         count = inside.count;
         last = inside.last;
@@ -236,16 +233,22 @@ event_step event.Insert older id rows whole channel table keys columns new key o
     let no_key : key ≡ [] = nil_from key q.0 in
     let no_old : old ≡ None = none_from old q.1 in (
       Insert new,
-      (plays_line older (values_line (codes "insert,") new) (Text (codes "insert")) new (Insert new) (values_back new (Text (codes "insert") ∷ []) new_text (some_values new columns p.0 is_columns)) s.0 (λ n.
-      judged_ok older n (Text (codes "insert") ∷ new) directive.Insert (Insert new) refl (stands older directive.Insert (inside.pending ∙ no_old) (complete older table keys columns inside.count inside.under)) refl
-      (ap (λ (h : Heading). length new == length (given h.columns)) inside.under ∙ p.0) refl),
-      record {
-        count = inside.count; last = inside.last; pending = refl;
-        under = insert_under (table_of older) new older ∙ inside.under;
-        binary = inside.binary; named = inside.named;
-        given_rows = λ i. inside.given_rows i ++ row_of (inside.under i) event.Insert new (sym no_key i) (sym no_old i) ∷ [];
-        given_batches = inside.given_batches; node = inside.node;
-      }),
+      (
+        plays_line older (values_line (codes "insert,") new) (Text (codes "insert")) new (Insert new) (values_back new (Text (codes "insert") ∷ []) new_text (some_values new columns p.0 is_columns)) s.0 (λ n.
+            judged_ok older n (Text (codes "insert") ∷ new) directive.Insert (Insert new) refl (stands older directive.Insert (inside.pending ∙ no_old) (complete older table keys columns inside.count inside.under)) refl
+            (ap (λ (h : Heading). length new == length (given h.columns)) inside.under ∙ p.0) refl),
+        record {
+          count = inside.count;
+          last = inside.last;
+          pending = refl;
+          under = insert_under (table_of older) new older ∙ inside.under;
+          binary = inside.binary;
+          named = inside.named;
+          given_rows = λ i. inside.given_rows i ++ row_of (inside.under i) event.Insert new (sym no_key i) (sym no_old i) ∷ [];
+          given_batches = inside.given_batches;
+          node = inside.node;
+        },
+      ),
     )
 event_step event.Update older id rows whole channel table keys columns new key old inside is_keys is_columns sides new_text key_text is_short =
     let s = first_short (event_line event.Update (row_at event.Update table keys columns new key old)) [] is_short in
@@ -255,21 +258,27 @@ event_step event.Update older id rows whole channel table keys columns new key o
     let some_key : 0 < length key = some_values key keys q.0 is_keys in
     let count : length columns ≡ length new = sym (eq_from (length new) (length columns) p.0) in
     let reads : line_of (codes "update," ++ (written_line new ++ 44 ∷ written_line key)) ≡ Ok (Text (codes "update") ∷ (new ++ key)) =
-        ap (λ (l : List ℕ). line_of (codes "update," ++ l)) (sym (written_append new key some_new some_key))
-        ∙ values_back (new ++ key) (Text (codes "update") ∷ []) (fields_append new key new_text key_text) (more_values new key some_new) in (
+    ap (λ (l : List ℕ). line_of (codes "update," ++ l)) (sym (written_append new key some_new some_key))
+    ∙ values_back (new ++ key) (Text (codes "update") ∷ []) (fields_append new key new_text key_text) (more_values new key some_new) in (
       Update (new ++ key),
-      (plays_line older (codes "update," ++ (written_line new ++ 44 ∷ written_line key)) (Text (codes "update")) (new ++ key) (Update (new ++ key)) reads s.0 (λ n.
-      judged_ok older n (Text (codes "update") ∷ (new ++ key)) directive.Update (Update (new ++ key)) refl (stands_after older directive.Update refl (complete older table keys columns inside.count inside.under)) refl
-      (ap (λ (h : Heading). length (new ++ key) == length (given h.columns) + length (given h.keys)) inside.under ∙ sum_test new key (length columns) (length keys) p.0 q.0) refl),
-      record {
-        count = inside.count; last = inside.last; pending = refl;
-        under = update_under (table_of older) (new ++ key) older ∙ inside.under;
-        binary = inside.binary; named = inside.named;
-        given_rows = (λ i. inside.given_rows i ++ row_of (inside.under i) event.Update (take (length (given (inside.under i).columns)) (new ++ key)) (drop (length (given (inside.under i).columns)) (new ++ key)) (inside.pending i) ∷ [])
-            ∙ ((λ i. rows ++ row_of (named_heading table keys columns) event.Update (take (count i) (new ++ key)) (drop (count i) (new ++ key)) old ∷ [])
-            ∙ (λ i. rows ++ row_of (named_heading table keys columns) event.Update (take-append_seam new key i) (drop-append_seam new key i) old ∷ []));
-        given_batches = inside.given_batches; node = inside.node;
-      }),
+      (
+        plays_line older (codes "update," ++ (written_line new ++ 44 ∷ written_line key)) (Text (codes "update")) (new ++ key) (Update (new ++ key)) reads s.0 (λ n.
+            judged_ok older n (Text (codes "update") ∷ (new ++ key)) directive.Update (Update (new ++ key)) refl (stands_after older directive.Update refl (complete older table keys columns inside.count inside.under)) refl
+            (ap (λ (h : Heading). length (new ++ key) == length (given h.columns) + length (given h.keys)) inside.under ∙ sum_test new key (length columns) (length keys) p.0 q.0) refl),
+        record {
+          count = inside.count;
+          last = inside.last;
+          pending = refl;
+          under = update_under (table_of older) (new ++ key) older ∙ inside.under;
+          binary = inside.binary;
+          named = inside.named;
+          given_rows = (λ i. inside.given_rows i ++ row_of (inside.under i) event.Update (take (length (given (inside.under i).columns)) (new ++ key)) (drop (length (given (inside.under i).columns)) (new ++ key)) (inside.pending i) ∷ [])
+              ∙ ((λ i. rows ++ row_of (named_heading table keys columns) event.Update (take (count i) (new ++ key)) (drop (count i) (new ++ key)) old ∷ [])
+              ∙ (λ i. rows ++ row_of (named_heading table keys columns) event.Update (take-append_seam new key i) (drop-append_seam new key i) old ∷ []));
+          given_batches = inside.given_batches;
+          node = inside.node;
+        },
+      ),
     )
 event_step event.Delete older id rows whole channel table keys columns new key old inside is_keys is_columns sides new_text key_text is_short =
     let s = first_short (event_line event.Delete (row_at event.Delete table keys columns new key old)) [] is_short in
@@ -277,16 +286,22 @@ event_step event.Delete older id rows whole channel table keys columns new key o
     let q = both (length key == length keys) (is_old old columns) p.1 in
     let no_new : new ≡ [] = nil_from new p.0 in (
       Delete key,
-      (plays_line older (values_line (codes "delete,") key) (Text (codes "delete")) key (Delete key) (values_back key (Text (codes "delete") ∷ []) key_text (some_values key keys q.0 is_keys)) s.0 (λ n.
-      judged_ok older n (Text (codes "delete") ∷ key) directive.Delete (Delete key) refl (stands_after older directive.Delete refl (complete older table keys columns inside.count inside.under)) refl
-      (ap (λ (h : Heading). length key == length (given h.keys)) inside.under ∙ q.0) refl),
-      record {
-        count = inside.count; last = inside.last; pending = refl;
-        under = delete_under (table_of older) key older ∙ inside.under;
-        binary = inside.binary; named = inside.named;
-        given_rows = λ i. inside.given_rows i ++ row_of (inside.under i) event.Delete (sym no_new i) key (inside.pending i) ∷ [];
-        given_batches = inside.given_batches; node = inside.node;
-      }),
+      (
+        plays_line older (values_line (codes "delete,") key) (Text (codes "delete")) key (Delete key) (values_back key (Text (codes "delete") ∷ []) key_text (some_values key keys q.0 is_keys)) s.0 (λ n.
+            judged_ok older n (Text (codes "delete") ∷ key) directive.Delete (Delete key) refl (stands_after older directive.Delete refl (complete older table keys columns inside.count inside.under)) refl
+            (ap (λ (h : Heading). length key == length (given h.keys)) inside.under ∙ q.0) refl),
+        record {
+          count = inside.count;
+          last = inside.last;
+          pending = refl;
+          under = delete_under (table_of older) key older ∙ inside.under;
+          binary = inside.binary;
+          named = inside.named;
+          given_rows = λ i. inside.given_rows i ++ row_of (inside.under i) event.Delete (sym no_new i) key (inside.pending i) ∷ [];
+          given_batches = inside.given_batches;
+          node = inside.node;
+        },
+      ),
     )
 
 -- the old row before it
@@ -318,12 +333,20 @@ row_step older id rows whole channel kind table keys columns new key (Some value
     judged_ok older n (Text (codes "old") ∷ values) directive.Old (Old values) refl (stands older directive.Old inside.pending (complete older table keys columns inside.count inside.under)) refl
     (ap (λ (h : Heading). length values == length (given h.columns)) inside.under ∙ fits) refl) in
     let waits : IsInside (Old values ∷ older) id (named_heading table keys columns) rows whole channel (Some values) = record {
-      count = inside.count; last = inside.last; pending = refl;
+      count = inside.count;
+      last = inside.last;
+      pending = refl;
       under = old_under (table_of older) values older ∙ inside.under;
-      binary = inside.binary; named = inside.named; given_rows = inside.given_rows; given_batches = inside.given_batches; node = inside.node;
+      binary = inside.binary;
+      named = inside.named;
+      given_rows = inside.given_rows;
+      given_batches = inside.given_batches;
+      node = inside.node;
     } in
     let step = event_step kind (Old values ∷ older) id rows whole channel table keys columns new key (Some values) waits is_keys is_columns sides t.0 u.0 parts.1 in (
       step.0 ∷ (Old values ∷ older),
-      (plays_then older (Old values ∷ older) (step.0 ∷ (Old values ∷ older)) (values_line (codes "old,") values ∷ []) (event_line kind (row_at kind table keys columns new key (Some values)) ∷ []) one step.1.0,
-      step.1.1),
+      (
+        plays_then older (Old values ∷ older) (step.0 ∷ (Old values ∷ older)) (values_line (codes "old,") values ∷ []) (event_line kind (row_at kind table keys columns new key (Some values)) ∷ []) one step.1.0,
+        step.1.1,
+      ),
     )

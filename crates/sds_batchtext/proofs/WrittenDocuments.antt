@@ -1,5 +1,5 @@
 -- The written lines of rows, of batches and of a document read back.
-use Rattle.std.proofs.Common.{◌≡◌, ℕ, ◌+◌, ◌<◌, ◌≤◌, ◌^◌, Bool, true, false, not, ◌&&◌, ◌||◌, ◌==◌, nat_lt, nat_le, List, [], ◌∷◌, ◌++◌, length, length-append, Option, None, Some, Result, Ok, Err, IsTrue, refl, sym, ap, subst, ◌∙◌, arith, append-nil, append_assoc, if◌then◌else◌}
+use Rattle.std.proofs.Common.{◌≡◌, ℕ, ◌+◌, ◌<◌, ◌≤◌, ◌^◌, Bool, true, false, not, ◌&&◌, ◌||◌, ◌==◌, nat_le, List, [], ◌∷◌, ◌++◌, length, length-append, Option, None, Some, IsTrue, refl, sym, ap, subst, ◌∙◌, arith, append-nil, append_assoc, if◌then◌else◌}
 use Rattle.std.proofs.lemmas.Bool.Decides.{nat_tests}
 use Rattle.std.proofs.lemmas.Slice.Eq.{bytes_eq-Decides}
 use Rattle.std.specs.Fmt.{decimal}
@@ -10,7 +10,6 @@ use Rattle.sds_line.proofs.Comparisons.{both, le_from}
 use Rattle.sds_line.specs.Splitting.{lines_from, lines_in, line_feeds}
 use Rattle.sds_types.specs.Limits.{most_count}
 use Rattle.sds_types.specs.declared.document.BatchDoc.{BatchDoc}
-use Rattle.sds_types.specs.declared.document.End.{End}
 use Rattle.sds_types.specs.declared.document.End.TheVariants.{Clean}
 use Rattle.sds_value.specs.Names.{is_name_text, is_name_character}
 use Rattle.sds_value.specs.declared.kind.Binary.{Binary}
@@ -24,9 +23,9 @@ use Rattle.sds_batchtext.specs.declared.doc_line.DocLine.TheVariants.{NodeId, Bi
 use Rattle.sds_batchtext.specs.declared.heading.Heading.{Heading}
 use Rattle.sds_batchtext.specs.Documents.{Document, document, batches_of, given_text, is_unfinished, last_end, end_or, first_end, bad_line}
 use Rattle.sds_batchtext.specs.Judging.{is_id}
-use Rattle.sds_batchtext.specs.LookingBack.{batch_lines, commit_lines, is_open, pending_old}
+use Rattle.sds_batchtext.specs.LookingBack.{is_open, pending_old}
 use Rattle.sds_batchtext.specs.Writable.{are_names, is_row, has_sides, is_row_text, is_base64, is_writable, is_batch_text}
-use Rattle.sds_batchtext.specs.Writing.{name_line, number_line, heading_lines, heading_after, row_lines, later_lines, lines_of_rows, lines_of_batch, lines_of_batches, head_lines, same_names, same_heading, text_of_lines, text_of}
+use Rattle.sds_batchtext.specs.Writing.{name_line, number_line, heading_lines, heading_after, row_lines, later_lines, lines_of_rows, lines_of_batch, lines_of_batches, same_names, same_heading, text_of_lines, text_of}
 use Rattle.sds_batchtext.proofs.Fronts.{text_append}
 use Rattle.sds_batchtext.proofs.Joins.{same_names_Decides}
 use Rattle.sds_batchtext.proofs.PlainLines.{name_back, number_back, encoded}
@@ -70,9 +69,10 @@ heading_next before row older id rows whole channel inside is is_short = by (sam
         (older, (subst (λ (lines : List (List ℕ)). Plays older lines older) (sym none) (λ n text. (n, refl)), subst (λ (h : Heading). IsInside older id h rows whole channel None) (same_headings before row same) inside))
     by false same =
         let all : heading_after before row ≡ heading_lines row = ap (λ (b : Bool). if b then [] else heading_lines row) same in
-        let step = heading_step older id (heading_for before) rows whole channel row.table row.keys row.columns inside is.table is.keys is.columns (ap are_short (sym all) ∙ is_short) in
-        (heading_lines_said row.table row.keys row.columns older,
-        (subst (λ (lines : List (List ℕ)). Plays older lines (heading_lines_said row.table row.keys row.columns older)) (sym all) step.0, step.1))
+        let step = heading_step older id (heading_for before) rows whole channel row.table row.keys row.columns inside is.table is.keys is.columns (ap are_short (sym all) ∙ is_short) in (
+          heading_lines_said row.table row.keys row.columns older,
+          (subst (λ (lines : List (List ℕ)). Plays older lines (heading_lines_said row.table row.keys row.columns older)) (sym all) step.0, step.1),
+        )
 
 row_next : (row : DocRow) (older : List DocLine) (id : ℕ) (rows : List DocRow) (whole : List BatchDoc) (channel : List ℕ) → IsInside older id (heading_for row) rows whole channel None → IsRow row → is_row_text row ≡ true
     → are_short (row_lines row) ≡ true → Leads older (row_lines row) id (heading_for row) (rows ++ row ∷ []) whole channel
@@ -93,9 +93,13 @@ later_rows (row ∷ more) before older id rows whole channel inside are texts is
     let two = row_next row one.0 id rows whole channel one.1.1 is t.0 u.0 in
     let three = later_rows more row two.0 id (rows ++ row ∷ []) whole channel two.1.1 a.1 t.1 u.1 in (
       three.0,
-      (three.1.0,
-      (plays_then older one.0 three.1.0 (heading_after before row) (row_lines row ++ later_lines row more) one.1.0 (plays_then one.0 two.0 three.1.0 (row_lines row) (later_lines row more) two.1.0 three.1.1.0),
-      subst (λ (l : List DocRow). IsInside three.1.0 id three.0 l whole channel None) (append_assoc rows (row ∷ []) more) three.1.1.1)),
+      (
+        three.1.0,
+        (
+          plays_then older one.0 three.1.0 (heading_after before row) (row_lines row ++ later_lines row more) one.1.0 (plays_then one.0 two.0 three.1.0 (row_lines row) (later_lines row more) two.1.0 three.1.1.0),
+          subst (λ (l : List DocRow). IsInside three.1.0 id three.0 l whole channel None) (append_assoc rows (row ∷ []) more) three.1.1.1,
+        ),
+      ),
     )
 
 all_rows : (rows : List DocRow) (older : List DocLine) (id : ℕ) (heading : Heading) (whole : List BatchDoc) (channel : List ℕ) → IsInside older id heading [] whole channel None → list_all is_row rows ≡ true
@@ -111,10 +115,14 @@ all_rows (row ∷ more) older id heading whole channel inside are texts is_short
     let two = row_next row (heading_lines_said row.table row.keys row.columns older) id [] whole channel one.1 is t.0 u.0 in
     let three = later_rows more row two.0 id (row ∷ []) whole channel two.1.1 a.1 t.1 u.1 in (
       three.0,
-      (three.1.0,
-      (plays_then older (heading_lines_said row.table row.keys row.columns older) three.1.0 (heading_lines row) (row_lines row ++ later_lines row more) one.0
-      (plays_then (heading_lines_said row.table row.keys row.columns older) two.0 three.1.0 (row_lines row) (later_lines row more) two.1.0 three.1.1.0),
-      three.1.1.1)),
+      (
+        three.1.0,
+        (
+          plays_then older (heading_lines_said row.table row.keys row.columns older) three.1.0 (heading_lines row) (row_lines row ++ later_lines row more) one.0
+              (plays_then (heading_lines_said row.table row.keys row.columns older) two.0 three.1.0 (row_lines row) (later_lines row more) two.1.0 three.1.1.0),
+          three.1.1.1,
+        ),
+      ),
     )
 
 -- A BATCH
@@ -176,19 +184,21 @@ batch_step batch older whole outside is text =
     judged_ok rows.1.0 n (Text (codes "commit") ∷ (Text (decimal batch.batch) ∷ [])) directive.Commit (Commit batch.batch) refl (stands rows.1.0 directive.Commit at_end.pending (opened rows.1.0 at_end.count))
     (id_said batch.batch Commit q.0 numbers.0 numbers.1) refl (ap (λ (o : Option ℕ). is_id o batch.batch) at_end.last ∙ itself batch.batch)) in (
       Commit batch.batch ∷ rows.1.0,
-      (plays_then older (Channel batch.channel ∷ older) (Commit batch.batch ∷ rows.1.0) (name_line (codes "channel,") batch.channel ∷ [])
-      (number_line (codes "batch,") batch.batch ∷ (lines_of_rows batch.rows ++ number_line (codes "commit,") batch.batch ∷ [])) one
-      (plays_then (Channel batch.channel ∷ older) (Batch batch.batch ∷ (Channel batch.channel ∷ older)) (Commit batch.batch ∷ rows.1.0) (number_line (codes "batch,") batch.batch ∷ [])
-      (lines_of_rows batch.rows ++ number_line (codes "commit,") batch.batch ∷ []) two
-      (plays_then (Batch batch.batch ∷ (Channel batch.channel ∷ older)) rows.1.0 (Commit batch.batch ∷ rows.1.0) (lines_of_rows batch.rows) (number_line (codes "commit,") batch.batch ∷ []) rows.1.1.0 three)),
-      record {
-        count = at_end.count;
-        pending = refl;
-        binary = at_end.binary;
-        given_batches = (λ i. at_end.given_batches i ++ record { channel = given_text (at_end.named i); batch = batch.batch; binary = at_end.binary i; rows = at_end.given_rows i } ∷ [])
-            ∙ (λ i. whole ++ record { channel = batch.channel; batch = batch.batch; binary = sym (base64_is batch.binary p.0) i; rows = batch.rows } ∷ []);
-        node = at_end.node;
-      }),
+      (
+        plays_then older (Channel batch.channel ∷ older) (Commit batch.batch ∷ rows.1.0) (name_line (codes "channel,") batch.channel ∷ [])
+            (number_line (codes "batch,") batch.batch ∷ (lines_of_rows batch.rows ++ number_line (codes "commit,") batch.batch ∷ [])) one
+            (plays_then (Channel batch.channel ∷ older) (Batch batch.batch ∷ (Channel batch.channel ∷ older)) (Commit batch.batch ∷ rows.1.0) (number_line (codes "batch,") batch.batch ∷ [])
+            (lines_of_rows batch.rows ++ number_line (codes "commit,") batch.batch ∷ []) two
+            (plays_then (Batch batch.batch ∷ (Channel batch.channel ∷ older)) rows.1.0 (Commit batch.batch ∷ rows.1.0) (lines_of_rows batch.rows) (number_line (codes "commit,") batch.batch ∷ []) rows.1.1.0 three)),
+        record {
+          count = at_end.count;
+          pending = refl;
+          binary = at_end.binary;
+          given_batches = (λ i. at_end.given_batches i ++ record { channel = given_text (at_end.named i); batch = batch.batch; binary = at_end.binary i; rows = at_end.given_rows i } ∷ [])
+              ∙ (λ i. whole ++ record { channel = batch.channel; batch = batch.batch; binary = sym (base64_is batch.binary p.0) i; rows = batch.rows } ∷ []);
+          node = at_end.node;
+        },
+      ),
     )
 
 pub batches_step : (batches : List BatchDoc) (older : List DocLine) (whole : List BatchDoc) → IsOutside older whole → list_all is_writable batches ≡ true → list_all is_batch_text batches ≡ true
@@ -200,8 +210,10 @@ batches_step (batch ∷ batches) older whole outside are texts =
     let one = batch_step batch older whole outside a.0 t.0 in
     let two = batches_step batches one.0 (whole ++ batch ∷ []) one.1.1 a.1 t.1 in (
       two.0,
-      (plays_then older one.0 two.0 (lines_of_batch batch) (lines_of_batches batches) one.1.0 two.1.0,
-      subst (λ (l : List BatchDoc). IsOutside two.0 l) (append_assoc whole (batch ∷ []) batches) two.1.1),
+      (
+        plays_then older one.0 two.0 (lines_of_batch batch) (lines_of_batches batches) one.1.0 two.1.0,
+        subst (λ (l : List BatchDoc). IsOutside two.0 l) (append_assoc whole (batch ∷ []) batches) two.1.1,
+      ),
     )
 
 -- A DOCUMENT

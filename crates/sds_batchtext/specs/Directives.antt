@@ -34,12 +34,14 @@ document_directive word =
 
 -- those that say nothing that symds needs
 abbrev pub is_skipped : List ℕ → Bool
-is_skipped word = bytes_eq word (codes "schema") || (bytes_eq word (codes "catalog") || (bytes_eq word (codes "stats_columns")
+is_skipped word = bytes_eq word (codes "schema") || (bytes_eq word (codes "catalog")
+    || (bytes_eq word (codes "stats_columns")
     || (bytes_eq word (codes "stats") || bytes_eq word (codes "ts"))))
 
 -- those that symds doesn't obey
 abbrev pub is_refused : List ℕ → Bool
-is_refused word = bytes_eq word (codes "sql") || (bytes_eq word (codes "bsh") || bytes_eq word (codes "create"))
+is_refused word =
+    bytes_eq word (codes "sql") || (bytes_eq word (codes "bsh") || bytes_eq word (codes "create"))
 
 -- a word that is none of the first three kinds
 abbrev pub other_directive : List ℕ → Result Directive DocumentCause
@@ -48,13 +50,17 @@ other_directive word =
     if is_refused word then Err RefusedDirective else Err UnknownDirective
 
 -- the directive, or else what comes next
-abbrev pub directive_or : Option Directive → Result Directive DocumentCause → Result Directive DocumentCause
+abbrev pub directive_or : Option Directive → Result Directive DocumentCause
+    → Result Directive DocumentCause
 directive_or (Some directive) next = Ok directive
 directive_or None next = next
 
 -- the directive of a word, or why it has none that is obeyed
 abbrev pub directive_named : List ℕ → Result Directive DocumentCause
-directive_named word = directive_or (row_directive word) (directive_or (table_directive word) (directive_or (document_directive word) (other_directive word)))
+directive_named word =
+    directive_or (row_directive word)
+    (directive_or (table_directive word)
+    (directive_or (document_directive word) (other_directive word)))
 
 -- The directive of a line with these fields: its first field, in lower case, plain or quoted.
 abbrev pub directive_of : List Field → Result Directive DocumentCause

@@ -1,5 +1,6 @@
--- What a line of a document says by itself: its fields after the directive, where they are what the directive asks for.
-use Rattle.std.specs.Prelude.{ℕ, ◌^◌, Bool, ◌&&◌, nat_le, if◌then◌else◌, List, [], ◌∷◌, codes, Option, Some, None}
+-- What a line of a document says by itself: its fields after the directive, where they are what the
+-- directive asks for.
+use Rattle.std.specs.Prelude.{ℕ, ◌&&◌, nat_le, if◌then◌else◌, List, [], ◌∷◌, codes, Option, Some, None}
 use Rattle.std.specs.Str.{bytes_eq}
 use Rattle.sds_types.specs.Limits.{most_count}
 use Rattle.sds_value.specs.Digits.{digits_value, is_digit_text}
@@ -68,9 +69,11 @@ abbrev pub said : {A : Type 0} → (A → DocLine) → Option A → Option DocLi
 said say None = None
 said say (Some thing) = Some (say thing)
 
--- What the line of this number says, by its directive and its other fields. How many values a row has is judged where it stands.
+-- What the line of this number says, by its directive and its other fields. How many values a row
+-- has is judged where it stands.
 abbrev pub line_said : ℕ → Directive → List Field → Option DocLine
-line_said number directive.NodeId fields = said (λ id. NodeId (record { id = id; line = number })) (name_in fields)
+line_said number directive.NodeId fields =
+    said (λ id. NodeId (record { id = id; line = number })) (name_in fields)
 line_said number directive.Binary fields = said BinaryForm (binary_in fields)
 line_said number directive.Channel fields = said Channel (name_in fields)
 line_said number directive.Batch fields = said Batch (id_in fields)

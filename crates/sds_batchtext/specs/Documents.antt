@@ -1,6 +1,6 @@
 -- What a document gives: its whole batches, and how it ends.
 use Rattle.std.specs.Prelude.{ℕ, Bool, false, true, is_some, ◌||◌, if◌then◌else◌, List, [], ◌∷◌, ◌++◌, length, take, drop, Option, Some, None}
-use Rattle.sds_line.specs.Splitting.{Split, lines_in}
+use Rattle.sds_line.specs.Splitting.{lines_in}
 use Rattle.sds_line.specs.declared.refusal.LineRefusal.{LineRefusal}
 use Rattle.sds_types.specs.declared.document.BatchDoc.{BatchDoc}
 use Rattle.sds_types.specs.declared.document.DocumentCause.TheVariants.{BadLine, Unfinished}
@@ -25,13 +25,21 @@ given_text (Some text) = text
 -- a row of the current table
 abbrev pub row_of : Heading → Event → List Field → List Field → Option (List Field) → DocRow
 row_of heading kind new key old = record {
-  event = kind; table = given_text heading.table; keys = given heading.keys; columns = given heading.columns; new = new; key = key; old = old }
+  event = kind;
+  table = given_text heading.table;
+  keys = given heading.keys;
+  columns = given heading.columns;
+  new = new;
+  key = key;
+  old = old;
+}
 
 -- the row that a line gives, under this heading and with this old row
 abbrev pub row_said : Heading → Option (List Field) → DocLine → Option DocRow
 row_said heading old (Insert values) = Some (row_of heading event.Insert values [] None)
 row_said heading old (Update values) =
-    Some (row_of heading event.Update (take (length (given heading.columns)) values) (drop (length (given heading.columns)) values) old)
+    Some (row_of heading event.Update (take (length (given heading.columns)) values)
+    (drop (length (given heading.columns)) values) old)
 row_said heading old (Delete values) = Some (row_of heading event.Delete [] values old)
 row_said heading old line = None
 
@@ -45,11 +53,17 @@ abbrev pub rows_of : List DocLine → List DocRow
 rows_of [] = []
 rows_of (Batch id ∷ older) = []
 rows_of (Commit id ∷ older) = []
-rows_of (line ∷ older) = and_one (rows_of older) (row_said (heading_of older) (pending_old older) line)
+rows_of (line ∷ older) =
+    and_one (rows_of older) (row_said (heading_of older) (pending_old older) line)
 
 -- the batch that a `commit` line ends
 abbrev pub batch_said : List DocLine → DocLine → Option BatchDoc
-batch_said older (Commit id) = Some (record { channel = given_text (channel_of older); batch = id; binary = binary_of older; rows = rows_of older })
+batch_said older (Commit id) = Some (record {
+  channel = given_text (channel_of older);
+  batch = id;
+  binary = binary_of older;
+  rows = rows_of older;
+})
 batch_said older line = None
 
 -- the whole batches, in order
@@ -72,9 +86,12 @@ first_end None second = second
 
 -- the first line of a text that breaks it, so far
 abbrev pub broken_in : Bool → List ℕ → Option End
-broken_in finished text = first_end (broken_line [] (lines_in finished text).lines) (bad_line (lines_in finished text).stop (lines_in finished text).last.number)
+broken_in finished text =
+    first_end (broken_line [] (lines_in finished text).lines)
+    (bad_line (lines_in finished text).stop (lines_in finished text).last.number)
 
--- A document ends inside a batch, or after an old row that waits; the line is the one that would begin after its last.
+-- A document ends inside a batch, or after an old row that waits; the line is the one that would
+-- begin after its last.
 abbrev pub is_unfinished : List DocLine → Bool
 is_unfinished older = is_open older || is_some (pending_old older)
 
@@ -87,7 +104,9 @@ end_or (Some first) last = first
 end_or None last = last
 
 abbrev pub end_of : List ℕ → End
-end_of text = end_or (broken_in true text) (last_end (is_unfinished (said_in true text)) (lines_in true text).last.number)
+end_of text =
+    end_or (broken_in true text)
+    (last_end (is_unfinished (said_in true text)) (lines_in true text).last.number)
 
 -- what a reader of a text, whole or so far, has found of its end
 abbrev pub end_in : Bool → List ℕ → Option End

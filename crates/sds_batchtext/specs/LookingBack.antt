@@ -60,27 +60,32 @@ abbrev pub is_at : Option (List ℕ) → List ℕ → Bool
 is_at None table = false
 is_at (Some name) table = bytes_eq name table
 
--- a table's keys: those of the last `keys` line that stands where the table is the current one, in any batch
+-- a table's keys: those of the last `keys` line that stands where the table is the current one, in
+-- any batch
 abbrev pub keys_of : List ℕ → List DocLine → Option (List (List ℕ))
 keys_of table [] = None
-keys_of table (Keys names ∷ older) = if is_at (table_of older) table then Some names else keys_of table older
+keys_of table (Keys names ∷ older) =
+    if is_at (table_of older) table then Some names else keys_of table older
 keys_of table (line ∷ older) = keys_of table older
 
 -- its columns likewise
 abbrev pub columns_of : List ℕ → List DocLine → Option (List (List ℕ))
 columns_of table [] = None
-columns_of table (Columns names ∷ older) = if is_at (table_of older) table then Some names else columns_of table older
+columns_of table (Columns names ∷ older) =
+    if is_at (table_of older) table then Some names else columns_of table older
 columns_of table (line ∷ older) = columns_of table older
 
 -- the current table with its keys and columns
 abbrev pub heading_at : Option (List ℕ) → List DocLine → Heading
 heading_at None older = record { table = None; keys = None; columns = None }
-heading_at (Some table) older = record { table = Some table; keys = keys_of table older; columns = columns_of table older }
+heading_at (Some table) older =
+    record { table = Some table; keys = keys_of table older; columns = columns_of table older }
 
 abbrev pub heading_of : List DocLine → Heading
 heading_of older = heading_at (table_of older) older
 
--- the old row that waits for its update or delete: that of an `old` line after which only skipped lines stand
+-- the old row that waits for its update or delete: that of an `old` line after which only skipped
+-- lines stand
 abbrev pub pending_old : List DocLine → Option (List Field)
 pending_old [] = None
 pending_old (Skipped ∷ older) = pending_old older

@@ -1,5 +1,5 @@
 -- What is kept of the lines of a document that were read.
-use Rattle.std.specs.Prelude.{◌≡◌, ℕ, ◌+◌, Bool, true, false, if◌then◌else◌, List, [], ◌∷◌, ◌++◌, Option, Some, None, Result, Ok, Err, IfSome}
+use Rattle.std.specs.Prelude.{◌≡◌, ℕ, ◌+◌, Bool, true, false, if◌then◌else◌, List, [], ◌∷◌, Option, Some, None, Result, Ok, Err, IfSome}
 use Rattle.std.specs.Str.{bytes_eq}
 use Rattle.sds_types.specs.declared.document.BatchDoc.{BatchDoc}
 use Rattle.sds_types.specs.declared.document.DocumentCause.{DocumentCause}
@@ -13,14 +13,16 @@ use Rattle.sds_batchtext.specs.LookingBack.{node_of, binary_of, channel_of, batc
 -- the names of a table in a list of tables' names: those of its first entry
 abbrev pub names_at : List ℕ → List TableNames → Option (List (List ℕ))
 names_at table [] = None
-names_at table (entry ∷ entries) = if bytes_eq entry.table table then Some entry.names else names_at table entries
+names_at table (entry ∷ entries) =
+    if bytes_eq entry.table table then Some entry.names else names_at table entries
 
 -- how many batches are open
 abbrev pub opened : Option ℕ → ℕ
 opened None = 0
 opened (Some id) = 1
 
--- The position is that after these lines, the newest first: what it keeps is what looking back gives.
+-- The position is that after these lines, the newest first: what it keeps is what looking back
+-- gives.
 pub record IsPositionAfter (older : List DocLine) (position : Position) : Type 0 where
   pub node : position.node ≡ node_of older
   pub binary : position.binary ≡ binary_of older
@@ -40,7 +42,10 @@ goes_on Skipped = false
 goes_on line = true
 
 -- A line was taken that says so, or was refused for this cause, which leaves the position.
-abbrev pub HasTaken : List DocLine → Result DocLine DocumentCause → Option DocumentCause → Position → List BatchDoc → List BatchDoc → Type 0
+abbrev pub HasTaken : List DocLine → Result DocLine DocumentCause → Option DocumentCause → Position
+    → List BatchDoc → List BatchDoc → Type 0
 HasTaken older (Ok said) refused position before after =
-    (refused ≡ None) × IsPositionAfter (said ∷ older) position × (after ≡ and_one before (batch_said older said))
-HasTaken older (Err cause) refused position before after = (refused ≡ Some cause) × IsPositionAfter older position × (after ≡ before)
+    (refused ≡ None) × IsPositionAfter (said ∷ older) position
+    × (after ≡ and_one before (batch_said older said))
+HasTaken older (Err cause) refused position before after =
+    (refused ≡ Some cause) × IsPositionAfter older position × (after ≡ before)

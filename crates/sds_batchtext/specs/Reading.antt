@@ -11,7 +11,8 @@ use Rattle.sds_batchtext.specs.Documents.{said_in, batches_in, batches_of, broke
 use Rattle.sds_batchtext.specs.Judging.{lines_said, broken_line}
 use Rattle.sds_batchtext.specs.Positions.{IsPositionAfter}
 
--- a reader: the lines that come, what is kept of those that were read, the batches that weren't taken, the end where it is known, and
+-- a reader: the lines that come, what is kept of those that were read, the batches that weren't
+-- taken, the end where it is known, and
 -- whether out of memory has lost a part of the document
 pub record ReaderState : Type 0 where
   pub lines : Fed
@@ -20,18 +21,22 @@ pub record ReaderState : Type 0 where
   pub ending : Option End
   pub is_spent : Bool
 
--- The reader was fed this text, in whatever pieces, these batches of it were taken, and its end is known or not.
+-- The reader was fed this text, in whatever pieces, these batches of it were taken, and its end is
+-- known or not.
 pub record HasRead (text : List ℕ) (taken : List BatchDoc) (finished : Bool) (reader : ReaderState) : Type 0 where
   pub whole : reader.is_spent ≡ false
   pub position : IsPositionAfter (said_in finished text) reader.position
   pub batches : taken ++ reader.ready ≡ batches_in finished text
   pub ending : reader.ending ≡ end_in finished text
-  pub follows : reader.ending ≡ None → Follows text (lines_in finished text).lines finished reader.lines
+  pub follows : reader.ending ≡ None
+      → Follows text (lines_in finished text).lines finished reader.lines
 
 -- What `take` answers, and what it leaves.
-abbrev pub Takes : List ℕ → List BatchDoc → Bool → Result (Option BatchDoc) NoMemory → ReaderState → Type 0
+abbrev pub Takes : List ℕ → List BatchDoc → Bool → Result (Option BatchDoc) NoMemory → ReaderState
+    → Type 0
 Takes text taken finished (Ok (Some batch)) new = HasRead text (taken ++ batch ∷ []) finished new
-Takes text taken finished (Ok None) new = (taken ≡ batches_in finished text) × HasRead text taken finished new
+Takes text taken finished (Ok None) new =
+    (taken ≡ batches_in finished text) × HasRead text taken finished new
 Takes text taken finished (Err memory) new = new.is_spent ≡ true
 
 -- lines of some text, some of which were taken

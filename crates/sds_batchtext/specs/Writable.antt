@@ -1,7 +1,6 @@
 -- The batches that have a written form.
-use Rattle.std.specs.Prelude.{ℕ, Bool, true, false, ◌&&◌, ◌==◌, nat_lt, nat_le, is_none, List, [], ◌∷◌, length, Option, Some, None}
+use Rattle.std.specs.Prelude.{ℕ, Bool, true, false, ◌&&◌, ◌==◌, nat_lt, nat_le, is_none, List, length, Option, Some, None}
 use Rattle.std.specs.List.{list_all}
-use Rattle.std.specs.Str.{all_scalars}
 use Rattle.sds_line.specs.Written.{are_fields}
 use Rattle.sds_types.specs.Limits.{most_count, most_line_bytes}
 use Rattle.sds_types.specs.declared.document.BatchDoc.{BatchDoc}
@@ -25,23 +24,30 @@ is_old (Some values) columns = length values == length columns
 
 -- the values that an event asks for, and no others
 abbrev pub has_sides : Event → DocRow → Bool
-has_sides event.Insert row = length row.new == length row.columns && (length row.key == 0 && is_none row.old)
-has_sides event.Update row = length row.new == length row.columns && (length row.key == length row.keys && is_old row.old row.columns)
-has_sides event.Delete row = length row.new == 0 && (length row.key == length row.keys && is_old row.old row.columns)
+has_sides event.Insert row =
+    length row.new == length row.columns && (length row.key == 0 && is_none row.old)
+has_sides event.Update row = length row.new == length row.columns
+    && (length row.key == length row.keys && is_old row.old row.columns)
+has_sides event.Delete row =
+    length row.new == 0 && (length row.key == length row.keys && is_old row.old row.columns)
 
 abbrev pub is_row : DocRow → Bool
-is_row row = is_name_text row.table && (are_names row.keys && (are_names row.columns && has_sides row.event row))
+is_row row = is_name_text row.table && (are_names row.keys && (are_names row.columns
+    && has_sides row.event row))
 
 abbrev pub is_base64 : Binary → Bool
 is_base64 Base64 = true
 is_base64 Hex = false
 is_base64 Plain = false
 
--- A batch has a written form: its bytes are in base64, its id is 1 to 2^62, its channel, tables, keys and columns are names, each row has
+-- A batch has a written form: its bytes are in base64, its id is 1 to 2^62, its channel, tables,
+-- keys and columns are names, each row has
 -- the values that its event asks for, and no line is too long.
 abbrev pub is_writable : BatchDoc → Bool
-is_writable batch = is_base64 batch.binary && ((nat_le 1 batch.batch && nat_le batch.batch most_count) && (is_name_text batch.channel
-    && (list_all is_row batch.rows && list_all (λ line. nat_le (length line) most_line_bytes) (lines_of_batch batch))))
+is_writable batch = is_base64 batch.binary && ((nat_le 1 batch.batch
+    && nat_le batch.batch most_count) && (is_name_text batch.channel
+    && (list_all is_row batch.rows
+    && list_all (λ line. nat_le (length line) most_line_bytes) (lines_of_batch batch))))
 
 -- the values of a row are made of characters
 abbrev pub is_old_text : Option (List Field) → Bool

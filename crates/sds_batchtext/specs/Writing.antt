@@ -47,7 +47,9 @@ row_lines row = old_lines row.old ++ event_line row.event row ∷ []
 
 -- the table of a row, its keys and its columns
 abbrev pub heading_lines : DocRow → List (List ℕ)
-heading_lines row = name_line (codes "table,") row.table ∷ (names_line (codes "keys") row.keys ∷ (names_line (codes "columns") row.columns ∷ []))
+heading_lines row =
+    name_line (codes "table,") row.table
+    ∷ (names_line (codes "keys") row.keys ∷ (names_line (codes "columns") row.columns ∷ []))
 
 abbrev pub same_names : List (List ℕ) → List (List ℕ) → Bool
 same_names [] [] = true
@@ -56,7 +58,8 @@ same_names (name ∷ names) [] = false
 same_names (name ∷ names) (other ∷ others) = bytes_eq name other && same_names names others
 
 abbrev pub same_heading : DocRow → DocRow → Bool
-same_heading before row = bytes_eq before.table row.table && (same_names before.keys row.keys && same_names before.columns row.columns)
+same_heading before row = bytes_eq before.table row.table && (same_names before.keys row.keys
+    && same_names before.columns row.columns)
 
 -- the heading stands before a row whose heading differs from that of the row before
 abbrev pub heading_after : DocRow → DocRow → List (List ℕ)
@@ -65,7 +68,8 @@ heading_after before row = if same_heading before row then [] else heading_lines
 -- the lines of rows after another row
 abbrev pub later_lines : DocRow → List DocRow → List (List ℕ)
 later_lines before [] = []
-later_lines before (row ∷ rows) = heading_after before row ++ (row_lines row ++ later_lines row rows)
+later_lines before (row ∷ rows) =
+    heading_after before row ++ (row_lines row ++ later_lines row rows)
 
 abbrev pub lines_of_rows : List DocRow → List (List ℕ)
 lines_of_rows [] = []
@@ -73,7 +77,9 @@ lines_of_rows (row ∷ rows) = heading_lines row ++ (row_lines row ++ later_line
 
 abbrev pub lines_of_batch : BatchDoc → List (List ℕ)
 lines_of_batch batch =
-    name_line (codes "channel,") batch.channel ∷ (number_line (codes "batch,") batch.batch ∷ (lines_of_rows batch.rows ++ number_line (codes "commit,") batch.batch ∷ []))
+    name_line (codes "channel,") batch.channel
+    ∷ (number_line (codes "batch,") batch.batch
+    ∷ (lines_of_rows batch.rows ++ number_line (codes "commit,") batch.batch ∷ []))
 
 abbrev pub lines_of_batches : List BatchDoc → List (List ℕ)
 lines_of_batches [] = []

@@ -11,7 +11,8 @@ use sds_types::MOST_COUNT;
 use sds_value::{Binary, Field, is_name};
 use std::alloc::Global;
 
-/// What the line of this number says, by its directive and its other fields; None where they aren't what it asks for.
+/// What the line of this number says, by its directive and its other fields; None where they aren't
+/// what it asks for.
 pub(crate) fn line_said(
     alloc: Global,
     number: u64,

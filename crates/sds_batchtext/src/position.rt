@@ -1,4 +1,5 @@
-//! What is kept of the lines of a document that were read: where it stands, and the batch that is open.
+//! What is kept of the lines of a document that were read: where it stands, and the batch that is
+//! open.
 ghost use Rattle.std.specs.Prelude.{◌≡◌, IfOk, OnOk, ℕ, List, [], ◌∷◌, take, drop, true, false, Some, None};
 ghost use Rattle.sds_batchtext.specs.declared.doc_line.DocLine.{DocLine};
 ghost use Rattle.sds_batchtext.specs.declared.doc_line.DocLine.TheVariants as line;
@@ -8,8 +9,8 @@ ghost use Rattle.sds_batchtext.specs.Judging as stated;
 ghost use Rattle.sds_batchtext.specs.Documents.{and_one, batch_said, is_unfinished};
 ghost use Rattle.sds_batchtext.specs.Positions.{IsPositionAfter, HasTaken, goes_on};
 
-use crate::line_reading::line_said;
 use crate::heading::given_text;
+use crate::line_reading::line_said;
 use crate::table_names::{TableNames, names_at, put_names};
 use crate::{Directive, DocLine, Heading, NodeLine, directive_of};
 use sds_base::{List, NoMemory, Twin, Txt};
@@ -102,7 +103,8 @@ impl Position {
         }
     }
 
-    /// Takes a line, and puts the batch that it ends to those that are ready; or says why the line may not stand here.
+    /// Takes a line, and puts the batch that it ends to those that are ready; or says why the line
+    /// may not stand here.
     pub(crate) fn take_line(
         &mut self,
         alloc: Global,
@@ -110,7 +112,8 @@ impl Position {
         ready: &mut VecDeque<BatchDoc>,
     ) -> Result<Option<DocumentCause>, NoMemory>
         ensures { IfOk result (λ refused. (older : List DocLine) → IsPositionAfter older self.old
-            → HasTaken older (stated.judged older line.number line.fields) refused self.new ready.old.items ready.new.items) }
+            → HasTaken older (stated.judged older line.number line.fields)
+            refused self.new ready.old.items ready.new.items) }
     {
         let Line { number, fields } = line;
         match self.judge(alloc, number, fields)? {
@@ -129,8 +132,10 @@ impl Position {
         number: u64,
         fields: List<Field>,
     ) -> Result<Result<DocLine, DocumentCause>, NoMemory>
-        ensures judged { IfOk result (λ judged. (older : List DocLine) → IsPositionAfter older self.now → judged ≡ stated.judged older number fields) }
-        ensures stands { IfOk result (λ judged. IfOk judged (λ said. (older : List DocLine) → IsPositionAfter older self.now
+        ensures judged { IfOk result (λ judged. (older : List DocLine)
+            → IsPositionAfter older self.now → judged ≡ stated.judged older number fields) }
+        ensures stands { IfOk result (λ judged. IfOk judged (λ said. (older : List DocLine)
+            → IsPositionAfter older self.now
             → stated.may_stand older (directive_for said) ≡ true)) }
     {
         let directive = match directive_of(fields.inner().as_slice()) {
@@ -147,7 +152,8 @@ impl Position {
     }
 
     fn judge_said(&self, said: DocLine) -> Result<DocLine, DocumentCause>
-        ensures judged { (older : List DocLine) → IsPositionAfter older self.now → stated.may_stand older (directive_for said) ≡ true
+        ensures judged { (older : List DocLine) → IsPositionAfter older self.now
+            → stated.may_stand older (directive_for said) ≡ true
             → result ≡ stated.judged_said older (Some said) }
         ensures same { IfOk result (λ line. line ≡ said) }
     {
@@ -162,20 +168,23 @@ impl Position {
 
     /// Whether a batch is open, or an old row waits.
     pub(crate) fn is_unfinished(&self) -> bool
-        ensures { (older : List DocLine) → IsPositionAfter older self.now → result ≡ is_unfinished older }
+        ensures { (older : List DocLine) → IsPositionAfter older self.now
+            → result ≡ is_unfinished older }
     {
         self.batch.is_some() || self.pending.is_some()
     }
 
     /// Whether a line with the directive may stand here.
     fn may_stand(&self, directive: Directive) -> bool
-        ensures { (older : List DocLine) → IsPositionAfter older self.now → result ≡ stated.may_stand older directive }
+        ensures { (older : List DocLine) → IsPositionAfter older self.now
+            → result ≡ stated.may_stand older directive }
     {
         (self.pending.is_none() || follows_old(directive)) && self.has_place(directive)
     }
 
     fn has_place(&self, directive: Directive) -> bool
-        ensures { (older : List DocLine) → IsPositionAfter older self.now → result ≡ stated.has_place older directive }
+        ensures { (older : List DocLine) → IsPositionAfter older self.now
+            → result ≡ stated.has_place older directive }
     {
         let is_open = self.batch.is_some();
         match directive {
@@ -194,7 +203,8 @@ impl Position {
 
     /// Whether a `commit` line has the id of the open batch.
     fn has_its_id(&self, line: &DocLine) -> bool
-        ensures { (older : List DocLine) → IsPositionAfter older self.now → stated.may_stand older (directive_for line.now) ≡ true
+        ensures { (older : List DocLine) → IsPositionAfter older self.now
+            → stated.may_stand older (directive_for line.now) ≡ true
             → result ≡ stated.has_its_id older line.now }
     {
         match line {
@@ -210,8 +220,10 @@ impl Position {
         said: DocLine,
         ready: &mut VecDeque<BatchDoc>,
     ) -> Result<(), NoMemory>
-        ensures { OnOk result ((older : List DocLine) → IsPositionAfter older self.old → stated.may_stand older (directive_for said) ≡ true
-            → IsPositionAfter (said ∷ older) self.new × (ready.new.items ≡ and_one ready.old.items (batch_said older said))) }
+        ensures { OnOk result ((older : List DocLine) → IsPositionAfter older self.old
+            → stated.may_stand older (directive_for said) ≡ true
+            → IsPositionAfter (said ∷ older) self.new
+            × (ready.new.items ≡ and_one ready.old.items (batch_said older said))) }
     {
         match said {
             DocLine::Skipped => Ok(()),
@@ -223,7 +235,8 @@ impl Position {
     /// Takes what a line says that ends no batch.
     fn take_inside(&mut self, alloc: Global, said: DocLine) -> Result<(), NoMemory>
         requires { goes_on said ≡ true }
-        ensures { OnOk result ((older : List DocLine) → IsPositionAfter older self.old → stated.may_stand older (directive_for said) ≡ true
+        ensures { OnOk result ((older : List DocLine) → IsPositionAfter older self.old
+            → stated.may_stand older (directive_for said) ≡ true
             → IsPositionAfter (said ∷ older) self.new) }
     {
         match said {
@@ -243,7 +256,8 @@ impl Position {
     }
 
     fn set_node(&mut self, node: NodeLine) -> Result<(), NoMemory>
-        ensures { (older : List DocLine) → IsPositionAfter older self.old → IsPositionAfter (line.NodeId node ∷ older) self.new }
+        ensures { (older : List DocLine) → IsPositionAfter older self.old
+            → IsPositionAfter (line.NodeId node ∷ older) self.new }
     {
         self.node = Some(node);
         self.pending = None;
@@ -251,7 +265,8 @@ impl Position {
     }
 
     fn set_binary(&mut self, binary: Binary) -> Result<(), NoMemory>
-        ensures { (older : List DocLine) → IsPositionAfter older self.old → IsPositionAfter (line.Binary binary ∷ older) self.new }
+        ensures { (older : List DocLine) → IsPositionAfter older self.old
+            → IsPositionAfter (line.Binary binary ∷ older) self.new }
     {
         self.binary = binary;
         self.pending = None;
@@ -259,7 +274,8 @@ impl Position {
     }
 
     fn set_channel(&mut self, name: Txt) -> Result<(), NoMemory>
-        ensures { (older : List DocLine) → IsPositionAfter older self.old → IsPositionAfter (line.Channel name ∷ older) self.new }
+        ensures { (older : List DocLine) → IsPositionAfter older self.old
+            → IsPositionAfter (line.Channel name ∷ older) self.new }
     {
         self.channel = Some(name);
         self.pending = None;
@@ -267,7 +283,8 @@ impl Position {
     }
 
     fn begin_batch(&mut self, id: u64) -> Result<(), NoMemory>
-        ensures { (older : List DocLine) → IsPositionAfter older self.old → is_open older ≡ false → IsPositionAfter (line.Batch id ∷ older) self.new }
+        ensures { (older : List DocLine) → IsPositionAfter older self.old → is_open older ≡ false
+            → IsPositionAfter (line.Batch id ∷ older) self.new }
     {
         let alloc = *self.keys.allocator();
         self.batch = Some(id);
@@ -278,7 +295,8 @@ impl Position {
     }
 
     fn set_table(&mut self, alloc: Global, name: Txt) -> Result<(), NoMemory>
-        ensures { OnOk result ((older : List DocLine) → IsPositionAfter older self.old → IsPositionAfter (line.Table name ∷ older) self.new) }
+        ensures { OnOk result ((older : List DocLine) → IsPositionAfter older self.old
+            → IsPositionAfter (line.Table name ∷ older) self.new) }
     {
         let keys = names_at(alloc, &name, self.keys.as_slice())?;
         let columns = names_at(alloc, &name, self.columns.as_slice())?;
@@ -292,7 +310,8 @@ impl Position {
     }
 
     fn set_keys(&mut self, alloc: Global, names: List<Txt>) -> Result<(), NoMemory>
-        ensures { OnOk result ((older : List DocLine) → IsPositionAfter older self.old → IsPositionAfter (line.Keys names ∷ older) self.new) }
+        ensures { OnOk result ((older : List DocLine) → IsPositionAfter older self.old
+            → IsPositionAfter (line.Keys names ∷ older) self.new) }
     {
         if let Some(table) = &self.heading.table {
             put_names(alloc, &mut self.keys, table, &names)?;
@@ -303,7 +322,8 @@ impl Position {
     }
 
     fn set_columns(&mut self, alloc: Global, names: List<Txt>) -> Result<(), NoMemory>
-        ensures { OnOk result ((older : List DocLine) → IsPositionAfter older self.old → IsPositionAfter (line.Columns names ∷ older) self.new) }
+        ensures { OnOk result ((older : List DocLine) → IsPositionAfter older self.old
+            → IsPositionAfter (line.Columns names ∷ older) self.new) }
     {
         if let Some(table) = &self.heading.table {
             put_names(alloc, &mut self.columns, table, &names)?;
@@ -314,15 +334,19 @@ impl Position {
     }
 
     fn add_insert(&mut self, alloc: Global, values: List<Field>) -> Result<(), NoMemory>
-        ensures { OnOk result ((older : List DocLine) → IsPositionAfter older self.old → IsPositionAfter (line.Insert values ∷ older) self.new) }
+        ensures { OnOk result ((older : List DocLine) → IsPositionAfter older self.old
+            → IsPositionAfter (line.Insert values ∷ older) self.new) }
     {
-        let row = self.heading.row(alloc, Event::Insert, values, List::new(alloc), None)?;
+        let row = self
+            .heading
+            .row(alloc, Event::Insert, values, List::new(alloc), None)?;
         self.pending = None;
         self.rows.push(row)
     }
 
     fn add_update(&mut self, alloc: Global, values: List<Field>) -> Result<(), NoMemory>
-        ensures { OnOk result ((older : List DocLine) → IsPositionAfter older self.old → IsPositionAfter (line.Update values ∷ older) self.new) }
+        ensures { OnOk result ((older : List DocLine) → IsPositionAfter older self.old
+            → IsPositionAfter (line.Update values ∷ older) self.new) }
     {
         let (new, key) = parted(values, self.heading.width())?;
         let old = self.pending.take();
@@ -331,15 +355,19 @@ impl Position {
     }
 
     fn add_delete(&mut self, alloc: Global, values: List<Field>) -> Result<(), NoMemory>
-        ensures { OnOk result ((older : List DocLine) → IsPositionAfter older self.old → IsPositionAfter (line.Delete values ∷ older) self.new) }
+        ensures { OnOk result ((older : List DocLine) → IsPositionAfter older self.old
+            → IsPositionAfter (line.Delete values ∷ older) self.new) }
     {
         let old = self.pending.take();
-        let row = self.heading.row(alloc, Event::Delete, List::new(alloc), values, old)?;
+        let row = self
+            .heading
+            .row(alloc, Event::Delete, List::new(alloc), values, old)?;
         self.rows.push(row)
     }
 
     fn hold_old(&mut self, values: List<Field>) -> Result<(), NoMemory>
-        ensures { (older : List DocLine) → IsPositionAfter older self.old → IsPositionAfter (line.Old values ∷ older) self.new }
+        ensures { (older : List DocLine) → IsPositionAfter older self.old
+            → IsPositionAfter (line.Old values ∷ older) self.new }
     {
         self.pending = Some(values);
         Ok(())
@@ -351,8 +379,10 @@ impl Position {
         id: u64,
         ready: &mut VecDeque<BatchDoc>,
     ) -> Result<(), NoMemory>
-        ensures { OnOk result ((older : List DocLine) → IsPositionAfter older self.old → is_open older ≡ true
-            → IsPositionAfter (line.Commit id ∷ older) self.new × (ready.new.items ≡ and_one ready.old.items (batch_said older (line.Commit id)))) }
+        ensures { OnOk result ((older : List DocLine) → IsPositionAfter older self.old
+            → is_open older ≡ true
+            → IsPositionAfter (line.Commit id ∷ older) self.new
+            × (ready.new.items ≡ and_one ready.old.items (batch_said older (line.Commit id)))) }
     {
         let channel = given_text(alloc, &self.channel)?;
         let rows = mem::replace(&mut self.rows, List::new(alloc));

@@ -18,11 +18,13 @@ pub(crate) fn read_lines(
     ready: &mut VecDeque<BatchDoc>,
 ) -> Result<Option<End>, NoMemory>
     requires { ∥ IsFed lines.old ∥₁ }
-    ensures read { IfOk result (λ ending. (text : List ℕ) (taken : List BatchDoc) (finished : Bool) → IsReading text taken finished lines.old position.old ready.old.items
+    ensures read { IfOk result (λ ending. (text : List ℕ) (taken : List BatchDoc) (finished : Bool)
+        → IsReading text taken finished lines.old position.old ready.old.items
         → HasReadLines text taken finished ending lines.new position.new ready.new.items) }
     ensures fed { IfOk result (λ ending. ending ≡ None → ∥ IsFed lines.new ∥₁) }
     ensures phase { is_finished lines.old.phase ≡ false → is_finished lines.new.phase ≡ false }
-    ensures reach { is_finished lines.old.phase ≡ false → reach lines.new.split ≡ reach lines.old.split }
+    ensures reach { is_finished lines.old.phase ≡ false
+        → reach lines.new.split ≡ reach lines.old.split }
 {
     let alloc = *ready.allocator();
     loop {

@@ -1,14 +1,14 @@
-//! Tests of documents that are read whole, byte by byte and cut at every place, and of written documents.
+//! Tests of documents that are read byte by byte and cut at every place.
 ghost use Rattle.std.specs.Prelude.{◌≡◌, ◌<◌, ◌^◌, length};
 
-use crate::tests_table::TABLE;
 use crate::Reader;
+use crate::tests_table::TABLE;
 use sds_base::NoMemory;
 use sds_types::{BatchDoc, End};
 use std::alloc::Global;
 use std::test::Fail;
 
-/// A document that is read, told in words: of each batch its id and its rows, the node, and the end.
+/// What a document gives, in words: of each batch its id and number of rows, the node, the end.
 #[derive(Drop)]
 struct Summary {
     alloc: Global,

@@ -14,8 +14,10 @@ use sds_line::put_fields;
 use sds_types::BatchDoc;
 use sds_value::{DocRow, Event, Field};
 
-/// Puts the lines with which the document of a node begins: its node, and that bytes are written in base64. Out of
-/// memory leaves `out` as it was. The form is that of the SymmetricDS guide's appendix on the CSV data format.
+/// Puts the lines with which the document of a node begins: its node, and that bytes are written in
+/// base64. Out of
+/// memory leaves `out` as it was. The form is that of the SymmetricDS guide's appendix on the CSV
+/// data format.
 pub fn put_head(node: &str, out: &mut Vec<u8>) -> Result<(), NoMemory>
     requires { IsTrue (is_name_text (chars node.now)) }
     ensures ok { OnOk result (out.new.items ≡ out.old.items ++ stated.head_text (chars node.now)) }
@@ -30,7 +32,8 @@ pub fn put_head(node: &str, out: &mut Vec<u8>) -> Result<(), NoMemory>
 }
 
 fn put_head_lines(node: &[u8], out: &mut Vec<u8>) -> Result<(), NoMemory>
-    ensures ok { OnOk result (out.new.items ≡ out.old.items ++ (codes "nodeid," ++ (node.now ++ codes "\nbinary,BASE64\n"))) }
+    ensures ok { OnOk result (out.new.items ≡ out.old.items ++ (codes "nodeid," ++ (node.now
+        ++ codes "\nbinary,BASE64\n"))) }
     ensures front { Extends out.old.items out.new.items }
 {
     put(b"nodeid,", out)?;
@@ -38,9 +41,12 @@ fn put_head_lines(node: &[u8], out: &mut Vec<u8>) -> Result<(), NoMemory>
     put(b"\nbinary,BASE64\n", out)
 }
 
-/// Puts a batch: its channel and its id, its rows, and its end. A row's table, keys and columns stand before it where they
-/// aren't those of the row before. Out of memory leaves `out` as it was. The batch's bytes are in base64, its id is 1 to
-/// 2^62, its channel, tables, keys and columns are names, each row has the values that its event asks for, and no written
+/// Puts a batch: its channel and its id, its rows, and its end. A row's table, keys and columns
+/// stand before it where they
+/// aren't those of the row before. Out of memory leaves `out` as it was. The batch's bytes are in
+/// base64, its id is 1 to
+/// 2^62, its channel, tables, keys and columns are names, each row has the values that its event
+/// asks for, and no written
 /// line has more than 1,048,576 bytes.
 pub fn put_batch(batch: &BatchDoc, out: &mut Vec<u8>) -> Result<(), NoMemory>
     requires { IsTrue (is_writable batch.now) }
@@ -66,7 +72,8 @@ fn put_whole_batch(batch: &BatchDoc, out: &mut Vec<u8>) -> Result<(), NoMemory>
 }
 
 fn put_rows(rows: &[DocRow], out: &mut Vec<u8>) -> Result<(), NoMemory>
-    ensures ok { OnOk result (out.new.items ≡ out.old.items ++ stated.text_of_lines (stated.lines_of_rows rows.now)) }
+    ensures ok { OnOk result (out.new.items ≡ out.old.items
+        ++ stated.text_of_lines (stated.lines_of_rows rows.now)) }
     ensures front { Extends out.old.items out.new.items }
 {
     match rows {
@@ -77,7 +84,8 @@ fn put_rows(rows: &[DocRow], out: &mut Vec<u8>) -> Result<(), NoMemory>
 
 /// Puts the first row of a batch, and those after it.
 fn put_from(first: &DocRow, others: &[DocRow], out: &mut Vec<u8>) -> Result<(), NoMemory>
-    ensures ok { OnOk result (out.new.items ≡ out.old.items ++ stated.text_of_lines (stated.lines_of_rows (first.now ∷ others.now))) }
+    ensures ok { OnOk result (out.new.items ≡ out.old.items
+        ++ stated.text_of_lines (stated.lines_of_rows (first.now ∷ others.now))) }
     ensures front { Extends out.old.items out.new.items }
 {
     put_heading(first, out)?;
@@ -86,7 +94,8 @@ fn put_from(first: &DocRow, others: &[DocRow], out: &mut Vec<u8>) -> Result<(), 
 }
 
 fn put_later(first: &DocRow, others: &[DocRow], out: &mut Vec<u8>) -> Result<(), NoMemory>
-    ensures ok { OnOk result (out.new.items ≡ out.old.items ++ stated.text_of_lines (stated.later_lines first.now others.now)) }
+    ensures ok { OnOk result (out.new.items ≡ out.old.items
+        ++ stated.text_of_lines (stated.later_lines first.now others.now)) }
     ensures front { Extends out.old.items out.new.items }
 {
     let mut before = first;
@@ -98,7 +107,8 @@ fn put_later(first: &DocRow, others: &[DocRow], out: &mut Vec<u8>) -> Result<(),
 }
 
 fn put_next(before: &DocRow, row: &DocRow, out: &mut Vec<u8>) -> Result<(), NoMemory>
-    ensures ok { OnOk result ((rows : List DocRow) → out.new.items ++ stated.text_of_lines (stated.later_lines row.now rows)
+    ensures ok { OnOk result ((rows : List DocRow) → out.new.items
+        ++ stated.text_of_lines (stated.later_lines row.now rows)
         ≡ out.old.items ++ stated.text_of_lines (stated.later_lines before.now (row.now ∷ rows))) }
     ensures front { Extends out.old.items out.new.items }
 {
@@ -108,7 +118,8 @@ fn put_next(before: &DocRow, row: &DocRow, out: &mut Vec<u8>) -> Result<(), NoMe
 
 /// Puts the heading of a row where it isn't that of the row before.
 fn put_heading_after(before: &DocRow, row: &DocRow, out: &mut Vec<u8>) -> Result<(), NoMemory>
-    ensures ok { OnOk result (out.new.items ≡ out.old.items ++ stated.text_of_lines (stated.heading_after before.now row.now)) }
+    ensures ok { OnOk result (out.new.items ≡ out.old.items
+        ++ stated.text_of_lines (stated.heading_after before.now row.now)) }
     ensures front { Extends out.old.items out.new.items }
 {
     if has_heading_of(row, before) {
@@ -133,7 +144,8 @@ fn have_same_names(names: &List<Txt>, others: &List<Txt>) -> bool
 }
 
 fn put_heading(row: &DocRow, out: &mut Vec<u8>) -> Result<(), NoMemory>
-    ensures ok { OnOk result (out.new.items ≡ out.old.items ++ stated.text_of_lines (stated.heading_lines row.now)) }
+    ensures ok { OnOk result (out.new.items ≡ out.old.items
+        ++ stated.text_of_lines (stated.heading_lines row.now)) }
     ensures front { Extends out.old.items out.new.items }
 {
     put_name(b"table,", &row.table, out)?;
@@ -142,7 +154,8 @@ fn put_heading(row: &DocRow, out: &mut Vec<u8>) -> Result<(), NoMemory>
 }
 
 fn put_row(row: &DocRow, out: &mut Vec<u8>) -> Result<(), NoMemory>
-    ensures ok { OnOk result (out.new.items ≡ out.old.items ++ stated.text_of_lines (stated.row_lines row.now)) }
+    ensures ok { OnOk result (out.new.items ≡ out.old.items
+        ++ stated.text_of_lines (stated.row_lines row.now)) }
     ensures front { Extends out.old.items out.new.items }
 {
     put_old(&row.old, out)?;
@@ -150,7 +163,8 @@ fn put_row(row: &DocRow, out: &mut Vec<u8>) -> Result<(), NoMemory>
 }
 
 fn put_event(row: &DocRow, out: &mut Vec<u8>) -> Result<(), NoMemory>
-    ensures ok { OnOk result (out.new.items ≡ out.old.items ++ stated.text_of_lines (stated.event_line row.now.event row.now ∷ [])) }
+    ensures ok { OnOk result (out.new.items ≡ out.old.items
+        ++ stated.text_of_lines (stated.event_line row.now.event row.now ∷ [])) }
     ensures front { Extends out.old.items out.new.items }
 {
     let new = row.new.inner().as_slice();
@@ -163,7 +177,8 @@ fn put_event(row: &DocRow, out: &mut Vec<u8>) -> Result<(), NoMemory>
 }
 
 fn put_old(old: &Option<List<Field>>, out: &mut Vec<u8>) -> Result<(), NoMemory>
-    ensures ok { OnOk result (out.new.items ≡ out.old.items ++ stated.text_of_lines (stated.old_lines old.now)) }
+    ensures ok { OnOk result (out.new.items ≡ out.old.items
+        ++ stated.text_of_lines (stated.old_lines old.now)) }
     ensures front { Extends out.old.items out.new.items }
 {
     match old {
@@ -173,7 +188,8 @@ fn put_old(old: &Option<List<Field>>, out: &mut Vec<u8>) -> Result<(), NoMemory>
 }
 
 fn put_update(new: &[Field], key: &[Field], out: &mut Vec<u8>) -> Result<(), NoMemory>
-    ensures ok { OnOk result (out.new.items ≡ out.old.items ++ (codes "update," ++ (written_line new.now ++ 44 ∷ (written_line key.now ++ 10 ∷ [])))) }
+    ensures ok { OnOk result (out.new.items ≡ out.old.items ++ (codes "update,"
+        ++ (written_line new.now ++ 44 ∷ (written_line key.now ++ 10 ∷ [])))) }
     ensures front { Extends out.old.items out.new.items }
 {
     put(b"update,", out)?;
@@ -184,7 +200,8 @@ fn put_update(new: &[Field], key: &[Field], out: &mut Vec<u8>) -> Result<(), NoM
 }
 
 fn put_values(word: &[u8], values: &[Field], out: &mut Vec<u8>) -> Result<(), NoMemory>
-    ensures ok { OnOk result (out.new.items ≡ out.old.items ++ (word.now ++ (written_line values.now ++ 10 ∷ []))) }
+    ensures ok { OnOk result (out.new.items ≡ out.old.items ++ (word.now ++ (written_line values.now
+        ++ 10 ∷ []))) }
     ensures front { Extends out.old.items out.new.items }
 {
     put(word, out)?;
@@ -193,7 +210,8 @@ fn put_values(word: &[u8], values: &[Field], out: &mut Vec<u8>) -> Result<(), No
 }
 
 fn put_name(word: &[u8], name: &Txt, out: &mut Vec<u8>) -> Result<(), NoMemory>
-    ensures ok { OnOk result (out.new.items ≡ out.old.items ++ (word.now ++ (encode_utf8_all name.now ++ 10 ∷ []))) }
+    ensures ok { OnOk result (out.new.items ≡ out.old.items ++ (word.now
+        ++ (encode_utf8_all name.now ++ 10 ∷ []))) }
     ensures front { Extends out.old.items out.new.items }
 {
     put(word, out)?;
@@ -202,7 +220,8 @@ fn put_name(word: &[u8], name: &Txt, out: &mut Vec<u8>) -> Result<(), NoMemory>
 }
 
 fn put_number(word: &[u8], number: u64, out: &mut Vec<u8>) -> Result<(), NoMemory>
-    ensures ok { OnOk result (out.new.items ≡ out.old.items ++ (word.now ++ (decimal number ++ 10 ∷ []))) }
+    ensures ok { OnOk result (out.new.items ≡ out.old.items ++ (word.now ++ (decimal number
+        ++ 10 ∷ []))) }
     ensures front { Extends out.old.items out.new.items }
 {
     let digits = number.to_string(*out.allocator())?;
@@ -212,7 +231,8 @@ fn put_number(word: &[u8], number: u64, out: &mut Vec<u8>) -> Result<(), NoMemor
 }
 
 fn put_names(word: &[u8], names: &[Txt], out: &mut Vec<u8>) -> Result<(), NoMemory>
-    ensures ok { OnOk result (out.new.items ≡ out.old.items ++ (word.now ++ (stated.further_names names.now ++ 10 ∷ []))) }
+    ensures ok { OnOk result (out.new.items ≡ out.old.items ++ (word.now
+        ++ (stated.further_names names.now ++ 10 ∷ []))) }
     ensures front { Extends out.old.items out.new.items }
 {
     put(word, out)?;
@@ -231,7 +251,8 @@ fn put_further(names: &[Txt], out: &mut Vec<u8>) -> Result<(), NoMemory>
 }
 
 fn put_one(name: &Txt, out: &mut Vec<u8>) -> Result<(), NoMemory>
-    ensures ok { OnOk result ((rest : List ℕ) → out.new.items ++ rest ≡ out.old.items ++ 44 ∷ (encode_utf8_all name.now ++ rest)) }
+    ensures ok { OnOk result ((rest : List ℕ) → out.new.items ++ rest ≡ out.old.items
+        ++ 44 ∷ (encode_utf8_all name.now ++ rest)) }
     ensures front { Extends out.old.items out.new.items }
 {
     put(b",", out)?;

@@ -1,4 +1,4 @@
-use Rattle.std.proofs.Common.{◌≡◌, ◌++◌, drop}
+use Rattle.std.proofs.Common.{◌≡◌, drop}
 use Rattle.sds_batchtext.specs.DocLines.{all_names}
 use Rattle.sds_batchtext.proofs.Names.{after}
 use Rattle.sds_batchtext.proofs.line_reading.all_names.Given as goal

@@ -1,7 +1,7 @@
-use Rattle.std.proofs.Common.{◌∙◌, ◌∷◌, ◌++◌, [], List, ℕ, Bool, Option, None, Ok, Some, subst, sym, rules}
+use Rattle.std.proofs.Common.{◌∙◌, Option, Ok, subst, rules}
 use Rattle.sds_line.specs.declared.line.Line.{Line}
-use Rattle.sds_line.specs.Splitting.{Answers, Follows}
-use Rattle.sds_batchtext.proofs.Readings.{TakesLine, TakesNone, fewer_left, fed_on, still_fed, read_on, read_stops, read_all, read_refused, refused_answer}
+use Rattle.sds_line.specs.Splitting.{Answers}
+use Rattle.sds_batchtext.proofs.Readings.{TakesLine, fewer_left, fed_on, still_fed, read_on, read_stops, read_all, read_refused, refused_answer}
 use Rattle.sds_batchtext.proofs.reading.read_lines.Goals as goal
 
 pub returns-in-Ok-None-clause-read : goal.returns-in-Ok-None-clause-read

@@ -1,4 +1,4 @@
-use Rattle.std.proofs.Common.{◌≡◌, ◌++◌, refl}
+use Rattle.std.proofs.Common.{◌++◌, refl}
 use Rattle.std.proofs.lemmas.Result.{on_ok_weaker}
 use Rattle.sds_batchtext.specs.Writing.{heading_after, later_lines, row_lines, text_of_lines}
 use Rattle.sds_batchtext.proofs.Joins.{join_lines}

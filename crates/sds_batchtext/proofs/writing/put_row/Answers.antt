@@ -1,4 +1,4 @@
-use Rattle.std.proofs.Common.{◌≡◌, ◌∷◌, []}
+use Rattle.std.proofs.Common.{◌∷◌, []}
 use Rattle.std.proofs.lemmas.Result.{on_ok_weaker}
 use Rattle.sds_batchtext.specs.Writing.{event_line, old_lines}
 use Rattle.sds_batchtext.proofs.Joins.{join_lines}

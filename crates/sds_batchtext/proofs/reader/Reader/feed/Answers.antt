@@ -1,4 +1,4 @@
-use Rattle.std.proofs.Common.{◌≡◌, ◌∙◌, ◌++◌, ap, sym, subst, false, rules}
+use Rattle.std.proofs.Common.{◌≡◌, ◌∙◌, ◌++◌, ap, sym, subst, false}
 use Rattle.sds_line.specs.Splitting.{is_finished, lines_in}
 use Rattle.sds_batchtext.specs.Reading.{ReaderState, HasRead}
 use Rattle.sds_batchtext.proofs.Readers.{ignored_by, can_go_on, can_read, piece_fed, begin_reading, has_read, both_ok, no_ending}

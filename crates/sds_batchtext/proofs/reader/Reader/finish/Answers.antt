@@ -1,4 +1,4 @@
-use Rattle.std.proofs.Common.{◌≡◌, ◌∙◌, ap, sym, subst, true}
+use Rattle.std.proofs.Common.{◌∙◌, ap, sym, subst, true}
 use Rattle.sds_batchtext.specs.Reading.{ReaderState, HasRead}
 use Rattle.sds_batchtext.proofs.Readers.{ended_before, can_go_on, can_read, end_fed, begin_ending}
 use Rattle.sds_batchtext.proofs.reader.Reader.finish.Goals as goal
