@@ -36,13 +36,13 @@ abbrev at_place : Place → List ℕ → List Field → HalfLine
 at_place place text fields = record { place = place; partial = whole; text = text; fields = fields }
 
 -- a text in quotes, and what follows it
-text_back : (cs rest : List ℕ) (fields : List Field) → all_scalars cs ≡ true → rest_of_line (quoted whole [] fields) ((escaped (encode_utf8_all cs) ++ 34 ∷ []) ++ rest) ≡ rest_of_line (at_place Behind cs fields) rest
+pub text_back : (cs rest : List ℕ) (fields : List Field) → all_scalars cs ≡ true → rest_of_line (quoted whole [] fields) ((escaped (encode_utf8_all cs) ++ 34 ∷ []) ++ rest) ≡ rest_of_line (at_place Behind cs fields) rest
 text_back cs rest fields scalars =
     ap (λ (bs : List ℕ). rest_of_line (quoted whole [] fields) bs) (append_assoc (escaped (encode_utf8_all cs)) (34 ∷ []) rest)
     ∙ quoted_text cs [] (34 ∷ rest) fields scalars
 
 -- further fields, behind a null and behind a text
-further_back : (more : List Field) → are_fields more ≡ true →
+pub further_back : (more : List Field) → are_fields more ≡ true →
     ((text : List ℕ) (fields : List Field) → rest_of_line (at_place Before text fields) (further_fields more) ≡ Ok (fields ++ Null ∷ more))
     × ((text : List ℕ) (fields : List Field) → rest_of_line (at_place Behind text fields) (further_fields more) ≡ Ok (fields ++ Text text ∷ more))
 further_back [] ok = (λ text fields. refl, λ text fields. refl)

@@ -12,6 +12,12 @@ pub fn written_reads_back()
     ensures line { (fields : List Field) → IsTrue (are_fields fields) → IsTrue (has_form fields) → line_of (written_line fields) ≡ Ok fields }
 {}
 
+/// The law that a written line of at most 1,048,576 bytes reads back with its line feed as that line, whatever follows it.
+pub fn written_lines_read_back()
+    ensures { (number : ℕ) (fields : List Field) (text : List ℕ) → IsTrue (are_fields fields) → IsTrue (has_form fields) → length (written_line fields) ≤ 1048576
+        → lines_from number (written_line fields ++ 10 ∷ text) ≡ behind (numbered number fields) (lines_from (number + line_feeds (written_line fields) + 1) text) }
+{}
+
 /// The law that the lines of a text are what its lines read as alone, each without its line feed.
 ///
 /// Of a line that is read and is not too long: the lines behind it follow, numbered by its line feeds and the one that

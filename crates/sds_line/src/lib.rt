@@ -17,7 +17,7 @@ mod writing;
 use draft::Draft;
 pub use laws::{
     lines_are_of_characters, lines_are_read_alone, lines_go_on, refusals_come_first,
-    written_reads_back,
+    written_lines_read_back, written_reads_back,
 };
 pub use line::Line;
 pub use lines::Lines;

@@ -1,0 +1,22 @@
+-- Bytes that grow at their end keep what stood there before, and lines that are written one after another.
+use Rattle.std.proofs.Common.{◌≡◌, ℕ, List, [], ◌∷◌, ◌++◌, refl, sym, ap, ◌∙◌, Bool, true, false, append_assoc, if◌then◌else◌}
+use Rattle.std.proofs.lemmas.List.{append-nil}
+use Rattle.sds_line.specs.Written.{Extends}
+use Rattle.sds_batchtext.specs.Writing.{text_of_lines}
+
+pub extends_same : (old new : List ℕ) → new ≡ old → Extends old new
+extends_same old new same = record { more = []; seam = same ∙ sym (append-nil old) }
+
+pub extends_by : (old new ys : List ℕ) → new ≡ old ++ ys → Extends old new
+extends_by old new ys is = record { more = ys; seam = is }
+
+pub extends_if : (old new ys : List ℕ) (b : Bool) → new ≡ (if b then old ++ ys else old) → Extends old new
+extends_if old new ys true is = extends_by old new ys is
+extends_if old new ys false is = extends_same old new is
+
+pub extends_then : (old mid new : List ℕ) → Extends old mid → Extends mid new → Extends old new
+extends_then old mid new e f = record { more = e.more ++ f.more; seam = f.seam ∙ (ap (λ (bs : List ℕ). bs ++ f.more) e.seam ∙ append_assoc old e.more f.more) }
+
+pub text_append : (a b : List (List ℕ)) → text_of_lines (a ++ b) ≡ text_of_lines a ++ text_of_lines b
+text_append [] b = refl
+text_append (line ∷ a) b = ap (λ (t : List ℕ). line ++ 10 ∷ t) (text_append a b) ∙ sym (append_assoc line (10 ∷ text_of_lines a) (text_of_lines b))

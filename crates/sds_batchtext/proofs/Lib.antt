@@ -1,0 +1,16 @@
+pub mod Plain
+pub mod Ids
+pub mod Names
+pub mod Entries
+pub mod Said
+pub mod Judged
+pub mod Readings
+pub mod Readers
+pub mod Fronts
+pub mod Joins
+pub mod Prefixes
+pub mod PlainLines
+pub mod Plays
+pub mod WrittenBatches
+pub mod WrittenDocuments
+pub mod Ordered

@@ -1,0 +1,10 @@
+use Rattle.std.proofs.Common.{◌++◌}
+use Rattle.std.specs.Prelude.{codes}
+use Rattle.std.proofs.lemmas.Result.{on_ok_weaker}
+use Rattle.sds_batchtext.proofs.Joins.{join}
+use Rattle.sds_batchtext.proofs.writing.put_head_lines.Goals as goal
+
+pub returns-clause-ok : goal.returns-clause-ok
+returns-clause-ok c = on_ok_weaker c.put-3.result (λ last.
+    join c.args.out.now.items c.put.new.out.items c.put-3.new.out.items (codes "nodeid,") (c.args.node.now ++ codes "\nbinary,BASE64\n") c.in_ok-put.ensures.ok
+    (join c.put.new.out.items c.put-2.new.out.items c.put-3.new.out.items c.args.node.now (codes "\nbinary,BASE64\n") c.in_ok-put-2.ensures.ok last)) c.put-3.ensures.ok

@@ -1,0 +1,11 @@
+pub mod Words
+pub mod Directives
+pub mod DocLines
+pub mod LookingBack
+pub mod Judging
+pub mod Documents
+pub mod Entries
+pub mod Positions
+pub mod Reading
+pub mod Writing
+pub mod Writable
