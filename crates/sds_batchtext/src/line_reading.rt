@@ -7,7 +7,7 @@ ghost use Rattle.sds_batchtext.specs.DocLines as stated;
 use crate::words::is_word;
 use crate::{Directive, DocLine, NodeLine};
 use sds_base::{List, NoMemory, Twin, Txt};
-use sds_types::MOST_COUNT;
+use sds_types::limits::MOST_COUNT;
 use sds_value::{Binary, Field, is_name};
 use std::alloc::Global;
 

@@ -16,9 +16,9 @@ use Rattle.sds_types.specs.declared.transform_column.ColumnExpression.TheVariant
 use Rattle.sds_types.specs.declared.transform_column.MapPair.{MapPair}
 use Rattle.sds_types.specs.declared.transform_column.NodeWord.{NodeWord}
 use Rattle.sds_types.specs.declared.transform_column.Substring.{Substring}
-use Rattle.sds_expressions.specs.ColumnTests.{tests_of}
-use Rattle.sds_expressions.specs.Lookups.{lookup_read}
-use Rattle.sds_expressions.specs.Subselects.{subselect_of}
+use Rattle.sds_expressions.specs.ColumnRouter.{tests_of}
+use Rattle.sds_expressions.specs.LookupRouter.{lookup_read}
+use Rattle.sds_expressions.specs.SubselectRouter.{subselect_of}
 use Rattle.sds_expressions.specs.Computed.{left_of, substr_of, value_map_of, variable_of, multiplier_of}
 
 -- that of a `default` router is empty and names every node
