@@ -21,7 +21,7 @@ use Rattle.sds_batchtext.specs.declared.directive.Directive.TheVariants as direc
 use Rattle.sds_batchtext.specs.declared.doc_line.DocLine.{DocLine}
 use Rattle.sds_batchtext.specs.declared.doc_line.DocLine.TheVariants.{NodeId, Binary as BinaryForm, Channel, Batch, Commit}
 use Rattle.sds_batchtext.specs.declared.heading.Heading.{Heading}
-use Rattle.sds_batchtext.specs.Documents.{Document, document, batches_of, given_text, is_unfinished, last_end, end_or, first_end, bad_line}
+use Rattle.sds_batchtext.specs.Documents.{Document, document_of, batches_of, given_text, is_unfinished, last_end, end_or, first_end, bad_line}
 use Rattle.sds_batchtext.specs.Judging.{is_id}
 use Rattle.sds_batchtext.specs.LookingBack.{is_open, pending_old}
 use Rattle.sds_batchtext.specs.Writable.{are_names, is_row, has_sides, is_row_text, is_base64, is_writable, is_batch_text}
@@ -231,7 +231,7 @@ finished : (older : List DocLine) (whole : List BatchDoc) → IsOutside older wh
 finished older whole outside = ap (λ (b : Bool). b || is_some (pending_old older)) (closed older outside.count) ∙ ap (λ (o : Option (List Field)). is_some o) outside.pending
 
 pub written_back : (node : List ℕ) (batches : List BatchDoc) → IsTrue (is_name_text node) → IsTrue (list_all is_writable batches) → IsTrue (list_all is_batch_text batches)
-    → document (text_of node batches) ≡ record { batches = batches; ending = Clean }
+    → document_of (text_of node batches) ≡ record { batches = batches; ending = Clean }
 written_back node batches is are texts =
     let named : DocLine = NodeId (record { id = node; line = 1 }) in
     let begun : List DocLine = BinaryForm Base64 ∷ (NodeId (record { id = node; line = 1 }) ∷ []) in

@@ -128,5 +128,5 @@ pub record Document : Type 0 where
   pub batches : List BatchDoc
   pub ending : End
 
-abbrev pub document : List ℕ → Document
-document text = record { batches = batches_in true text; ending = end_of text }
+abbrev pub document_of : List ℕ → Document
+document_of text = record { batches = batches_in true text; ending = end_of text }

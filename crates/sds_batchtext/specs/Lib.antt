@@ -9,3 +9,4 @@ pub mod Positions
 pub mod Reading
 pub mod Writing
 pub mod Writable
+pub mod Told

@@ -4,7 +4,7 @@ ghost use Rattle.std.specs.List.{list_all};
 ghost use Rattle.sds_types.specs.declared.document.BatchDoc.{BatchDoc};
 ghost use Rattle.sds_types.specs.declared.document.End.TheVariants.{Clean};
 ghost use Rattle.sds_value.specs.Names.{is_name_text};
-ghost use Rattle.sds_batchtext.specs.Documents.{batches_in, document};
+ghost use Rattle.sds_batchtext.specs.Documents.{batches_in, document_of};
 ghost use Rattle.sds_batchtext.specs.Writable.{is_writable, is_batch_text};
 ghost use Rattle.sds_batchtext.specs.Writing.{head_text, batch_text, text_of};
 
@@ -14,7 +14,7 @@ ghost use Rattle.sds_batchtext.specs.Writing.{head_text, batch_text, text_of};
 pub fn written_documents_read_back()
     ensures { (node : List ℕ) (batches : List BatchDoc) → IsTrue (is_name_text node)
         → IsTrue (list_all is_writable batches) → IsTrue (list_all is_batch_text batches)
-        → document (text_of node batches) ≡ record { batches = batches; ending = Clean } }
+        → document_of (text_of node batches) ≡ record { batches = batches; ending = Clean } }
 {}
 
 /// The law that a document is written in order: its head, and then each batch after those before

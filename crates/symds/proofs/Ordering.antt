@@ -10,7 +10,7 @@ use Rattle.clap.specs.declared.error.kind.ErrorKind.TheVariants as kind
 use Rattle.symds.specs.declared.words.Order.{Order}
 use Rattle.symds.specs.declared.words.WordsRefusal.{WordsRefusal}
 use Rattle.symds.specs.declared.words.WordsRefusal.TheVariants.{Bad, Help, Version, NoMemory}
-use Rattle.symds.specs.Words.{IsBadOrder, IsMistake, IsOrder, IsRefused, order_from, order_of, program, refusal_of, texts_of}
+use Rattle.symds.specs.Words.{IsBadOrder, IsMistake, IsOrder, IsRefused, order_from, order_of, program, words_refusal_of, texts_of}
 
 pub is_order : (words texts : List (List ℕ)) (rows : List Row) (order : Order) → texts ≡ texts_of words → rows ≡ matches_of program texts → fault_of program texts ≡ []
     → order_from rows ≡ Ok order → IsOrder words order
@@ -43,10 +43,10 @@ refusal_read words texts rows (Ok order) same found none is = tt
 refusal_read words texts rows (Err why) same found none is = why_bad words texts rows why same found none is
 
 -- what clap refuses
-mistaken : (words : List (List ℕ)) (mistake : ErrorKind) → IsAmong mistake (fault_of program (texts_of words)) → refusal_of mistake ≡ Bad 0 → IsMistake mistake → IsRefused words (refusal_of mistake)
+mistaken : (words : List (List ℕ)) (mistake : ErrorKind) → IsAmong mistake (fault_of program (texts_of words)) → words_refusal_of mistake ≡ Bad 0 → IsMistake mistake → IsRefused words (words_refusal_of mistake)
 mistaken words mistake among is mistakes = subst (IsRefused words) (sym is) (inr (refl, (mistake, (among, mistakes))))
 
-among_refused : (words : List (List ℕ)) (mistake : ErrorKind) → IsAmong mistake (fault_of program (texts_of words)) → IsRefused words (refusal_of mistake)
+among_refused : (words : List (List ℕ)) (mistake : ErrorKind) → IsAmong mistake (fault_of program (texts_of words)) → IsRefused words (words_refusal_of mistake)
 among_refused words kind.DisplayHelp among = among
 among_refused words kind.DisplayVersion among = among
 among_refused words kind.OutOfMemory among = tt
@@ -66,6 +66,6 @@ among_refused words kind.Io among = mistaken words kind.Io among refl (λ e. cc,
 among_refused words kind.Format among = mistaken words kind.Format among refl (λ e. cc, λ e. cc)
 
 pub fault_read : (words texts : List (List ℕ)) (mistake : ErrorKind) (answer : WordsRefusal) → texts ≡ texts_of words → (mistake ≡ kind.OutOfMemory) ⊎ IsAmong mistake (fault_of program texts)
-    → answer ≡ refusal_of mistake → IsRefused words answer
-fault_read words texts mistake answer same (inl memory) is = subst (IsRefused words) (sym (is ∙ ap refusal_of memory)) tt
+    → answer ≡ words_refusal_of mistake → IsRefused words answer
+fault_read words texts mistake answer same (inl memory) is = subst (IsRefused words) (sym (is ∙ ap words_refusal_of memory)) tt
 fault_read words texts mistake answer same (inr among) is = subst (IsRefused words) (sym is) (among_refused words mistake (subst (λ t. IsAmong mistake (fault_of program t)) same among))

@@ -136,11 +136,11 @@ abbrev pub order_of : List (List ℕ) → Result Order WordsRefusal
 order_of texts = order_from (matches_of program texts)
 
 -- why words are refused that clap refuses
-abbrev pub refusal_of : ErrorKind → WordsRefusal
-refusal_of kind.DisplayHelp = Help
-refusal_of kind.DisplayVersion = Version
-refusal_of kind.OutOfMemory = NoMemory
-refusal_of mistake = Bad 0
+abbrev pub words_refusal_of : ErrorKind → WordsRefusal
+words_refusal_of kind.DisplayHelp = Help
+words_refusal_of kind.DisplayVersion = Version
+words_refusal_of kind.OutOfMemory = NoMemory
+words_refusal_of mistake = Bad 0
 
 -- WORDS, each a list of characters: the order that they are, or why they are none
 abbrev pub texts_of : List (List ℕ) → List (List ℕ)

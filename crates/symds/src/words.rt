@@ -150,7 +150,7 @@ fn read_matches<'a>(alloc: Global, texts: &'a [&'a str]) -> Result<ArgMatches<'a
 
 /// Why words are refused, by the kind of clap's error.
 fn refusal_of(kind: ErrorKind) -> WordsRefusal
-    ensures { result ≡ wanted.refusal_of kind }
+    ensures { result ≡ wanted.words_refusal_of kind }
 {
     match kind {
         ErrorKind::DisplayHelp => WordsRefusal::Help,

@@ -1,6 +1,6 @@
 use Rattle.std.proofs.Common.{◌≡◌, ap, ◌∙◌, map, List, ℕ}
 use Rattle.std.specs.Borrow.{Bor}
-use Rattle.symds.specs.Words.{refusal_of}
+use Rattle.symds.specs.Words.{words_refusal_of}
 use Rattle.symds.proofs.Ordering.{order_read, refusal_read, fault_read}
 use Rattle.symds.proofs.words.read_words.Goals as goal
 
@@ -17,4 +17,4 @@ returns-in-Ok-read_matches-clause-refused c = refusal_read c.args.words.now (tex
 
 pub returns-clause-refused : goal.returns-clause-refused
 returns-clause-refused c = fault_read c.args.words.now (texts c.as_slice.result.now) _ c.refusal_of.result (ap texts c.as_slice.ensures.value ∙ c.in-Ok.ensures)
-    c.in-Err.ensures.refused (c.refusal_of.ensures ∙ ap refusal_of c.kind.ensures)
+    c.in-Err.ensures.refused (c.refusal_of.ensures ∙ ap words_refusal_of c.kind.ensures)
