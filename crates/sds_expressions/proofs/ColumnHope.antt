@@ -10,56 +10,56 @@ use Rattle.std.specs.Str.{all_scalars}
 use Rattle.sds_types.specs.declared.column_test.ColumnTest.{ColumnTest}
 use Rattle.sds_types.specs.declared.column_test.Operand.{Operand}
 use Rattle.sds_types.specs.declared.column_test.Operand.TheVariants.{NodeId, ExternalId, NodeGroupId, Text}
-use Rattle.sds_expressions.specs.declared.column_router.Part.{Part}
-use Rattle.sds_expressions.specs.declared.column_router.Part.TheVariants as part
-use Rattle.sds_expressions.specs.declared.column_router.Reading.{Reading}
+use Rattle.sds_expressions.specs.declared.column_router.ColumnPart.{ColumnPart}
+use Rattle.sds_expressions.specs.declared.column_router.ColumnPart.TheVariants as part
+use Rattle.sds_expressions.specs.declared.column_router.ColumnReading.{ColumnReading}
 use Rattle.sds_expressions.proofs.Readings.{IsBadPlace}
 use Rattle.sds_value.specs.Names.{is_name_character}
 use Rattle.sds_expressions.specs.ColumnForm.{begins_old, is_bare_character}
 use Rattle.sds_expressions.specs.ColumnRouter as column
 use Rattle.sds_expressions.proofs.Readings as readings
 
-abbrev CanEnd : Reading → Type 0
+abbrev CanEnd : ColumnReading → Type 0
 CanEnd reading = readings.CanEnd column.step column.finish reading
 
-done : (reading : Reading) (tests : List ColumnTest) → column.finish reading ≡ Some tests → CanEnd reading
+done : (reading : ColumnReading) (tests : List ColumnTest) → column.finish reading ≡ Some tests → CanEnd reading
 done reading tests is = readings.done column.step column.finish reading tests is
 
-one_more : (reading next : Reading) (c : ℕ) → column.step reading c ≡ Some next → scalar c ≡ true → CanEnd next → CanEnd reading
+one_more : (reading next : ColumnReading) (c : ℕ) → column.step reading c ≡ Some next → scalar c ≡ true → CanEnd next → CanEnd reading
 one_more reading next c is good can = readings.one_more column.step column.finish reading next c is good can
 
 -- in a word after a colon stands a prefix of a word
-abbrev HoldsAt : Part → List ℕ → Type 0
+abbrev HoldsAt : ColumnPart → List ℕ → Type 0
 HoldsAt part.Colon text = column.begins_word text ≡ true
 HoldsAt other text = Unit {0}
 
-abbrev Holds : Reading → Type 0
+abbrev Holds : ColumnReading → Type 0
 Holds reading = HoldsAt reading.part reading.text
 
 -- one state after another
-kept : (reading next : Reading) → Holds reading → Some reading ≡ Some next → Holds next
+kept : (reading next : ColumnReading) → Holds reading → Some reading ≡ Some next → Holds next
 kept reading next holds e = let same : reading ≡ next = cc in subst Holds same holds
 
-gone : (next : Reading) → None ≡ Some next → Holds next
+gone : (next : ColumnReading) → None ≡ Some next → Holds next
 gone next e = absurd (cc)
 
-branch : (t : Bool) (x y : Option Reading) (next : Reading) → (t ≡ true → x ≡ Some next → Holds next) → (y ≡ Some next → Holds next) → (if t then x else y) ≡ Some next → Holds next
+branch : (t : Bool) (x y : Option ColumnReading) (next : ColumnReading) → (t ≡ true → x ≡ Some next → Holds next) → (y ≡ Some next → Holds next) → (if t then x else y) ≡ Some next → Holds next
 branch true x y next f g e = f refl e
 branch false x y next f g e = g e
 
-ended : (reading next : Reading) (c : ℕ) (operand : Option Operand) → column.ended reading c operand ≡ Some next → Holds next
+ended : (reading next : ColumnReading) (c : ℕ) (operand : Option Operand) → column.ended reading c operand ≡ Some next → Holds next
 ended reading next c None e = absurd (cc)
 ended reading next c (Some operand) e =
     branch (c == 32) _ _ next (λ _ f. kept _ next tt f) (λ f. branch (c == 10) _ _ next (λ _ g. kept _ next tt g) (gone next) f) e
 
-named : (reading next : Reading) (c : ℕ) → column.step_named reading c ≡ Some next → Holds next
+named : (reading next : ColumnReading) (c : ℕ) → column.step_named reading c ≡ Some next → Holds next
 named reading next c e =
     branch (c == 32) _ _ next (λ _ f. kept _ next tt f) (λ f. branch (c == 61) _ _ next (λ _ g. kept _ next tt g) (λ g. branch (c == 33) _ _ next (λ _ h. kept _ next tt h) (gone next) g) f) e
 
-before : (reading next : Reading) (c : ℕ) → column.step_before reading c ≡ Some next → Holds next
+before : (reading next : ColumnReading) (c : ℕ) → column.step_before reading c ≡ Some next → Holds next
 before reading next c e = branch (c == 32) _ _ next (λ _ f. kept _ next tt f) (λ f. branch (is_name_character c) _ _ next (λ _ g. kept _ next tt g) (gone next) f) e
 
-step_kept : (at : Part) (reading next : Reading) (c : ℕ) → reading.part ≡ at → Holds reading → column.step_at at reading c ≡ Some next → Holds next
+step_kept : (at : ColumnPart) (reading next : ColumnReading) (c : ℕ) → reading.part ≡ at → Holds reading → column.step_at at reading c ≡ Some next → Holds next
 step_kept part.Before reading next c is holds e = before reading next c e
 step_kept part.Fresh reading next c is holds e = before reading next c e
 step_kept part.Name reading next c is holds e =
@@ -85,30 +85,30 @@ step_kept part.After reading next c is holds e =
 step_kept part.Letter reading next c is holds e = branch (c == 114) _ _ next (λ _ f. kept _ next tt f) (gone next) e
 step_kept part.Joined reading next c is holds e = branch (c == 32) _ _ next (λ _ f. kept _ next tt f) (gone next) e
 
-keeps : (reading next : Reading) (c : ℕ) → Holds reading → column.step reading c ≡ Some next → Holds next
+keeps : (reading next : ColumnReading) (c : ℕ) → Holds reading → column.step reading c ≡ Some next → Holds next
 keeps reading next c holds e = step_kept reading.part reading next c refl holds e
 
 -- after a value, and before one
-can_bare : (reading : Reading) → reading.part ≡ part.Bare → CanEnd reading
+can_bare : (reading : ColumnReading) → reading.part ≡ part.Bare → CanEnd reading
 can_bare reading is = done reading (reading.tests ++ column.test_of reading (column.bare_operand reading.text) ∷ []) (rw is refl)
 
-can_quote : (reading : Reading) → reading.part ≡ part.Quote → CanEnd reading
+can_quote : (reading : ColumnReading) → reading.part ≡ part.Quote → CanEnd reading
 can_quote reading is = done reading (reading.tests ++ column.test_of reading (Text reading.text) ∷ []) (rw is refl)
 
-can_quoted : (reading : Reading) → reading.part ≡ part.Quoted → CanEnd reading
+can_quoted : (reading : ColumnReading) → reading.part ≡ part.Quoted → CanEnd reading
 can_quoted reading is = one_more reading (column.at_part reading part.Quote) 39 (rw is refl) refl (can_quote (column.at_part reading part.Quote) refl)
 
-can_sign : (reading : Reading) → reading.part ≡ part.Sign → CanEnd reading
+can_sign : (reading : ColumnReading) → reading.part ≡ part.Sign → CanEnd reading
 can_sign reading is = let next = record reading { text = 98 ∷ []; part = part.Bare } in one_more reading next 98 (rw is refl) refl (can_bare next refl)
 
-can_bang : (reading : Reading) → reading.part ≡ part.Bang → CanEnd reading
+can_bang : (reading : ColumnReading) → reading.part ≡ part.Bang → CanEnd reading
 can_bang reading is = let next = record reading { differs = true; part = part.Sign } in one_more reading next 61 (rw is refl) refl (can_sign next refl)
 
 -- after a name, and in one
-can_named : (reading : Reading) → reading.part ≡ part.Named → CanEnd reading
+can_named : (reading : ColumnReading) → reading.part ≡ part.Named → CanEnd reading
 can_named reading is = let next = record reading { differs = false; part = part.Sign } in one_more reading next 61 (rw is refl) refl (can_sign next refl)
 
-can_whole : (reading : Reading) → reading.part ≡ part.Name → column.is_whole reading.name ≡ true → CanEnd reading
+can_whole : (reading : ColumnReading) → reading.part ≡ part.Name → column.is_whole reading.name ≡ true → CanEnd reading
 can_whole reading is whole = let next = record reading { differs = false; part = part.Sign } in one_more reading next 61 (rw (is, whole) refl) refl (can_sign next refl)
 
 no_more : (xs : List ℕ) → nat_le 1 (length xs) ≡ false → xs ≡ []
@@ -126,7 +126,7 @@ nameless name h = at (begins_old name) refl
     at true e = let nothing : drop 4 name ≡ [] = no_more (drop 4 name) (rw e at h) in inr (old_name name e ∙ ap (λ rest. codes "OLD_" ++ rest) nothing)
     at false e = inl (no_more name (rw e at h))
 
-can_name : (reading : Reading) → reading.part ≡ part.Name → CanEnd reading
+can_name : (reading : ColumnReading) → reading.part ≡ part.Name → CanEnd reading
 can_name reading is = at (column.is_whole reading.name) refl
   where
     begun : (name : List ℕ) → (name ≡ []) ⊎ (name ≡ codes "OLD_") → (column.is_short (name ++ 97 ∷ []) ≡ true) × (column.is_whole (name ++ 97 ∷ []) ≡ true)
@@ -140,13 +140,13 @@ can_name reading is = at (column.is_whole reading.name) refl
         let next = record reading { name = reading.name ++ 97 ∷ [] } in
         one_more reading next 97 (rw (is, grows.0) refl) refl (can_whole next is grows.1)
 
-can_before : (reading : Reading) → reading.part ≡ part.Before → CanEnd reading
+can_before : (reading : ColumnReading) → reading.part ≡ part.Before → CanEnd reading
 can_before reading is = let next = record reading { name = 97 ∷ []; part = part.Name } in one_more reading next 97 (rw is refl) refl (can_name next refl)
 
-can_joined : (reading : Reading) → reading.part ≡ part.Joined → CanEnd reading
+can_joined : (reading : ColumnReading) → reading.part ≡ part.Joined → CanEnd reading
 can_joined reading is = one_more reading (column.at_part reading part.Before) 32 (rw is refl) refl (can_before (column.at_part reading part.Before) refl)
 
-can_letter : (reading : Reading) → reading.part ≡ part.Letter → CanEnd reading
+can_letter : (reading : ColumnReading) → reading.part ≡ part.Letter → CanEnd reading
 can_letter reading is = one_more reading (column.at_part reading part.Joined) 114 (rw is refl) refl (can_joined (column.at_part reading part.Joined) refl)
 
 -- in a word after a colon
@@ -197,7 +197,7 @@ pub back_scalars : (cs ds : List ℕ) → all_scalars (cs ++ ds) ≡ true → al
 back_scalars [] ds e = e
 back_scalars (c ∷ cs) ds e = back_scalars cs ds (and_parts (scalar c) (all_scalars (cs ++ ds)) e).1
 
-can_word : (rest word : List ℕ) (reading : Reading) → reading.part ≡ part.Colon → IsWord word → word ≡ reading.text ++ rest → CanEnd reading
+can_word : (rest word : List ℕ) (reading : ColumnReading) → reading.part ≡ part.Colon → IsWord word → word ≡ reading.text ++ rest → CanEnd reading
 can_word [] word reading is named e =
     let text : reading.text ≡ word = sym (e ∙ append-nil reading.text) in
     let means = operand word named in
@@ -208,7 +208,7 @@ can_word (c ∷ rest) word reading is named e =
     let next = record reading { text = reading.text ++ c ∷ [] } in
     one_more reading next c (rw (is, begins word (reading.text ++ c ∷ []) rest named longer) refl) (and_parts (scalar c) (all_scalars rest) good).0 (can_word rest word next is named longer)
 
-can_colon : (reading : Reading) → reading.part ≡ part.Colon → column.begins_word reading.text ≡ true → CanEnd reading
+can_colon : (reading : ColumnReading) → reading.part ≡ part.Colon → column.begins_word reading.text ≡ true → CanEnd reading
 can_colon reading is holds = at (one_of (front (codes "NODE_ID") reading.text) (front (codes "EXTERNAL_ID") reading.text) (front (codes "NODE_GROUP_ID") reading.text) holds)
   where
     at : (front (codes "NODE_ID") reading.text ≡ true) ⊎ ((front (codes "EXTERNAL_ID") reading.text ≡ true) ⊎ (front (codes "NODE_GROUP_ID") reading.text ≡ true)) → CanEnd reading
@@ -216,7 +216,7 @@ can_colon reading is holds = at (one_of (front (codes "NODE_ID") reading.text) (
     at (inr (inl e)) = can_word (drop (length reading.text) (codes "EXTERNAL_ID")) (codes "EXTERNAL_ID") reading is (inr (inl refl)) (rest_is (codes "EXTERNAL_ID") reading.text e)
     at (inr (inr e)) = can_word (drop (length reading.text) (codes "NODE_GROUP_ID")) (codes "NODE_GROUP_ID") reading is (inr (inr refl)) (rest_is (codes "NODE_GROUP_ID") reading.text e)
 
-can_at : (at : Part) (reading : Reading) → reading.part ≡ at → HoldsAt at reading.text → CanEnd reading
+can_at : (at : ColumnPart) (reading : ColumnReading) → reading.part ≡ at → HoldsAt at reading.text → CanEnd reading
 can_at part.Before reading is holds = can_before reading is
 can_at part.Fresh reading is holds = done reading reading.tests (rw is refl)
 can_at part.Name reading is holds = can_name reading is
@@ -231,7 +231,7 @@ can_at part.After reading is holds = done reading reading.tests (rw is refl)
 can_at part.Letter reading is holds = can_letter reading is
 can_at part.Joined reading is holds = can_joined reading is
 
-can : (reading : Reading) → Holds reading → CanEnd reading
+can : (reading : ColumnReading) → Holds reading → CanEnd reading
 can reading holds = can_at reading.part reading refl holds
 
 -- the first bad place

@@ -8,27 +8,27 @@ use Rattle.sds_types.specs.declared.column_test.ColumnTest.{ColumnTest}
 use Rattle.sds_types.specs.declared.column_test.Operand.{Operand}
 use Rattle.sds_types.specs.declared.column_test.Operand.TheVariants.{NodeId, ExternalId, NodeGroupId, Null, Text}
 use Rattle.sds_value.specs.Names.{is_name_character}
-use Rattle.sds_expressions.specs.declared.column_router.Part.TheVariants as part
-use Rattle.sds_expressions.specs.declared.column_router.Reading.{Reading}
+use Rattle.sds_expressions.specs.declared.column_router.ColumnPart.TheVariants as part
+use Rattle.sds_expressions.specs.declared.column_router.ColumnReading.{ColumnReading}
 use Rattle.sds_expressions.specs.ColumnRouter as column
 use Rattle.sds_expressions.specs.Forms.{AnyOf}
-use Rattle.sds_expressions.specs.ColumnForm.{is_space, begins_old, is_bare_character, NameOf, SignOf, is_bare, doubled, quoted, ValueOf, TestOf, IsJoint, TestsOf, IsEnd, IsColumnForm}
+use Rattle.sds_expressions.specs.ColumnForm.{is_space, begins_old, is_bare_character, NameOf, SignOf, is_bare, doubled, quoted, OperandOf, TestOf, IsJoint, TestsOf, OptionalFeed, IsColumnForm}
 use Rattle.sds_expressions.proofs.ColumnSound.{accept, before, in_name, named, signed, with_text, tested, after}
 
 -- spaces change nothing before a name, a sign and a value
-over_name : (r : Reading) (a rest : List ℕ) → AnyOf is_space a → accept (before r) (a ++ rest) ≡ accept (before r) rest
+over_name : (r : ColumnReading) (a rest : List ℕ) → AnyOf is_space a → accept (before r) (a ++ rest) ≡ accept (before r) rest
 over_name r [] rest all = refl
 over_name r (c ∷ cs) rest all = let (here, more) = and_parts (c == 32) (list_all is_space cs) all in rw here (over_name r cs rest more)
 
-over_sign : (r : Reading) (n a rest : List ℕ) → AnyOf is_space a → accept (named r n) (a ++ rest) ≡ accept (named r n) rest
+over_sign : (r : ColumnReading) (n a rest : List ℕ) → AnyOf is_space a → accept (named r n) (a ++ rest) ≡ accept (named r n) rest
 over_sign r n [] rest all = refl
 over_sign r n (c ∷ cs) rest all = let (here, more) = and_parts (c == 32) (list_all is_space cs) all in rw here (over_sign r n cs rest more)
 
-over_value : (r : Reading) (a rest : List ℕ) → AnyOf is_space a → accept (record r { part = part.Sign }) (a ++ rest) ≡ accept (record r { part = part.Sign }) rest
+over_value : (r : ColumnReading) (a rest : List ℕ) → AnyOf is_space a → accept (record r { part = part.Sign }) (a ++ rest) ≡ accept (record r { part = part.Sign }) rest
 over_value r [] rest all = refl
 over_value r (c ∷ cs) rest all = let (here, more) = and_parts (c == 32) (list_all is_space cs) all in rw here (over_value r cs rest more)
 
-over_behind : (r : Reading) (a rest : List ℕ) → AnyOf is_space a → accept (record r { part = part.After }) (a ++ rest) ≡ accept (record r { part = part.After }) rest
+over_behind : (r : ColumnReading) (a rest : List ℕ) → AnyOf is_space a → accept (record r { part = part.After }) (a ++ rest) ≡ accept (record r { part = part.After }) rest
 over_behind r [] rest all = refl
 over_behind r (c ∷ cs) rest all = let (here, more) = and_parts (c == 32) (list_all is_space cs) all in rw here (over_behind r cs rest more)
 
@@ -80,7 +80,7 @@ short_prefix (x ∷ y ∷ z ∷ w ∷ a) b e = at (begins_old (x ∷ y ∷ z ∷
     at true f = few f
     at false f = longer f
 
-over_word : (r : Reading) (n a rest : List ℕ) → list_all is_name_character a ≡ true → column.is_short (n ++ a) ≡ true → accept (in_name r n) (a ++ rest) ≡ accept (in_name r (n ++ a)) rest
+over_word : (r : ColumnReading) (n a rest : List ℕ) → list_all is_name_character a ≡ true → column.is_short (n ++ a) ≡ true → accept (in_name r n) (a ++ rest) ≡ accept (in_name r (n ++ a)) rest
 over_word r n [] rest all short = ap (λ w. accept (in_name r w) rest) (sym (append-nil n))
 over_word r n (c ∷ cs) rest all short =
     let (here, more) = and_parts (is_name_character c) (list_all is_name_character cs) all in
@@ -103,24 +103,24 @@ short_one c = at (begins_old (c ∷ []))
     at true = refl
     at false = refl
 
-begins_name : (r : Reading) (c : ℕ) (rest : List ℕ) → is_name_character c ≡ true → accept (before r) (c ∷ rest) ≡ accept (in_name r []) (c ∷ rest)
+begins_name : (r : ColumnReading) (c : ℕ) (rest : List ℕ) → is_name_character c ≡ true → accept (before r) (c ∷ rest) ≡ accept (in_name r []) (c ∷ rest)
 begins_name r c rest e = rw (space_no_name c e, e, short_one c) refl
 
-to_word : (r : Reading) (word rest : List ℕ) (old : Bool) (name : List ℕ) → Named word old name → accept (before r) (word ++ rest) ≡ accept (in_name r word) rest
+to_word : (r : ColumnReading) (word rest : List ℕ) (old : Bool) (name : List ℕ) → Named word old name → accept (before r) (word ++ rest) ≡ accept (in_name r word) rest
 to_word r [] rest old name is = let none : false ≡ true = is.whole in absurd (cc)
 to_word r (c ∷ cs) rest old name is =
     let (here, more) = and_parts (is_name_character c) (list_all is_name_character cs) is.all in
     begins_name r c (cs ++ rest) here ∙ over_word r [] (c ∷ cs) rest is.all is.short
 
 -- after a whole name stands a space or a sign
-ends_name : (r : Reading) (word : List ℕ) (c : ℕ) (rest : List ℕ) → column.is_whole word ≡ true → is_name_character c ≡ false → accept (in_name r word) (c ∷ rest) ≡ accept (named r word) (c ∷ rest)
+ends_name : (r : ColumnReading) (word : List ℕ) (c : ℕ) (rest : List ℕ) → column.is_whole word ≡ true → is_name_character c ≡ false → accept (in_name r word) (c ∷ rest) ≡ accept (named r word) (c ∷ rest)
 ends_name r word c rest whole e = rw (e, whole) refl
 
-sign_read : (r : Reading) (n : List ℕ) (differs : Bool) (sign rest : List ℕ) → SignOf differs sign → accept (named r n) (sign ++ rest) ≡ accept (signed (named r n) differs) rest
+sign_read : (r : ColumnReading) (n : List ℕ) (differs : Bool) (sign rest : List ℕ) → SignOf differs sign → accept (named r n) (sign ++ rest) ≡ accept (signed (named r n) differs) rest
 sign_read r n true sign rest e = rw e refl
 sign_read r n false sign rest e = rw e refl
 
-before_sign : (r : Reading) (word : List ℕ) (differs : Bool) (a sign rest : List ℕ) → column.is_whole word ≡ true → AnyOf is_space a → SignOf differs sign
+before_sign : (r : ColumnReading) (word : List ℕ) (differs : Bool) (a sign rest : List ℕ) → column.is_whole word ≡ true → AnyOf is_space a → SignOf differs sign
     → accept (in_name r word) (a ++ (sign ++ rest)) ≡ accept (named r word) (a ++ (sign ++ rest))
 before_sign r word true [] sign rest whole all e = rw e (ends_name r word 33 (61 ∷ rest) whole refl)
 before_sign r word false [] sign rest whole all e = rw e (ends_name r word 61 rest whole refl)
@@ -132,12 +132,12 @@ before_sign r word differs (c ∷ cs) sign rest whole all e =
 abbrev Closed : List ℕ → Type 0
 Closed text = (text ≡ []) ⊎ ((cs : List ℕ) × (text ≡ 32 ∷ cs)) ⊎ ((cs : List ℕ) × (text ≡ 10 ∷ cs))
 
-bare_end : (r : Reading) (t rest : List ℕ) → Closed rest → accept (with_text r t part.Bare) rest ≡ after (with_text r t part.Sign) (column.bare_operand t) rest
+bare_end : (r : ColumnReading) (t rest : List ℕ) → Closed rest → accept (with_text r t part.Bare) rest ≡ after (with_text r t part.Sign) (column.bare_operand t) rest
 bare_end r t rest (inl e) = rw e refl
 bare_end r t rest (inr (inl (cs, e))) = rw e refl
 bare_end r t rest (inr (inr (cs, e))) = rw e refl
 
-over_bare : (r : Reading) (t a rest : List ℕ) → list_all is_bare_character a ≡ true → accept (with_text r t part.Bare) (a ++ rest) ≡ accept (with_text r (t ++ a) part.Bare) rest
+over_bare : (r : ColumnReading) (t a rest : List ℕ) → list_all is_bare_character a ≡ true → accept (with_text r t part.Bare) (a ++ rest) ≡ accept (with_text r (t ++ a) part.Bare) rest
 over_bare r t [] rest all = ap (λ w. accept (with_text r w part.Bare) rest) (sym (append-nil t))
 over_bare r t (c ∷ cs) rest all =
     let (here, more) = and_parts (is_bare_character c) (list_all is_bare_character cs) all in
@@ -150,19 +150,19 @@ no_bare c d g e = at (c == d) refl
     at true f = let h : is_bare_character d ≡ true = subst (λ x. is_bare_character x ≡ true) (eqb-true c d f) e in absurd (cc)
     at false f = refl
 
-bare_read : (r : Reading) (word rest : List ℕ) → is_bare word ≡ true → Closed rest → accept (record r { part = part.Sign }) (word ++ rest) ≡ after (with_text r word part.Sign) (column.bare_operand word) rest
+bare_read : (r : ColumnReading) (word rest : List ℕ) → is_bare word ≡ true → Closed rest → accept (record r { part = part.Sign }) (word ++ rest) ≡ after (with_text r word part.Sign) (column.bare_operand word) rest
 bare_read r [] rest good closed = let none : false ≡ true = good in absurd (cc)
 bare_read r (c ∷ cs) rest good closed =
     let all = (and_parts (nat_le 1 (length (c ∷ cs))) _ good).1 in
     let (here, more) = and_parts (is_bare_character c) (list_all is_bare_character cs) all in
     rw (no_bare c 32 refl here, no_bare c 39 refl here, no_bare c 58 refl here, here) (over_bare r (c ∷ []) cs rest more ∙ bare_end r (c ∷ cs) rest closed)
 
-quote_end : (r : Reading) (t rest : List ℕ) → Closed rest → accept (with_text r t part.Quote) rest ≡ after (with_text r t part.Sign) (Text t) rest
+quote_end : (r : ColumnReading) (t rest : List ℕ) → Closed rest → accept (with_text r t part.Quote) rest ≡ after (with_text r t part.Sign) (Text t) rest
 quote_end r t rest (inl e) = rw e refl
 quote_end r t rest (inr (inl (cs, e))) = rw e refl
 quote_end r t rest (inr (inr (cs, e))) = rw e refl
 
-over_quoted : (r : Reading) (t a rest : List ℕ) → accept (with_text r t part.Quoted) (doubled a ++ 39 ∷ rest) ≡ accept (with_text r (t ++ a) part.Quote) rest
+over_quoted : (r : ColumnReading) (t a rest : List ℕ) → accept (with_text r t part.Quoted) (doubled a ++ 39 ∷ rest) ≡ accept (with_text r (t ++ a) part.Quote) rest
 over_quoted r t [] rest = ap (λ w. accept (with_text r w part.Quote) rest) (sym (append-nil t))
 over_quoted r t (c ∷ cs) rest = at (c == 39) refl (over_quoted r (t ++ c ∷ []) cs rest ∙ ap (λ w. accept (with_text r w part.Quote) rest) (append_assoc t (c ∷ []) cs))
   where
@@ -171,11 +171,11 @@ over_quoted r t (c ∷ cs) rest = at (c == 39) refl (over_quoted r (t ++ c ∷ [
     at true f more = rw f (ap (λ x. accept (with_text r (t ++ x ∷ []) part.Quoted) (doubled cs ++ 39 ∷ rest)) (sym (eqb-true c 39 f)) ∙ more)
     at false f more = rw (f, f) more
 
-quoted_read : (r : Reading) (value rest : List ℕ) → Closed rest → accept (record r { part = part.Sign }) (quoted value ++ rest) ≡ after (with_text r value part.Sign) (Text value) rest
+quoted_read : (r : ColumnReading) (value rest : List ℕ) → Closed rest → accept (record r { part = part.Sign }) (quoted value ++ rest) ≡ after (with_text r value part.Sign) (Text value) rest
 quoted_read r value rest closed = ap (λ x. accept (with_text r [] part.Quoted) x) (append_assoc (doubled value) (39 ∷ []) rest) ∙ (over_quoted r [] value rest ∙ quote_end r value rest closed)
 
 -- a value, with some text that is left of it in the reading
-value_read : (r : Reading) (operand : Operand) (word rest : List ℕ) → ValueOf operand word → Closed rest
+value_read : (r : ColumnReading) (operand : Operand) (word rest : List ℕ) → OperandOf operand word → Closed rest
     → (text : List ℕ) × (accept (record r { part = part.Sign }) (word ++ rest) ≡ after (with_text r text part.Sign) operand rest)
 value_read r NodeId word rest e closed = (codes "NODE_ID", rw e (at closed))
   where
@@ -211,15 +211,15 @@ closed_spaces : (a rest : List ℕ) → AnyOf is_space a → Closed rest → Clo
 closed_spaces [] rest all closed = closed
 closed_spaces (c ∷ cs) rest all closed = let (here, more) = and_parts (c == 32) (list_all is_space cs) all in inr (inl (cs ++ rest, ap (λ x. x ∷ cs ++ rest) (eqb-true c 32 here)))
 
-after_spaces : (r : Reading) (operand : Operand) (c : ℕ) (cs rest : List ℕ) → AnyOf is_space (c ∷ cs) → after r operand ((c ∷ cs) ++ rest) ≡ accept (record (tested r operand) { part = part.After }) rest
+after_spaces : (r : ColumnReading) (operand : Operand) (c : ℕ) (cs rest : List ℕ) → AnyOf is_space (c ∷ cs) → after r operand ((c ∷ cs) ++ rest) ≡ accept (record (tested r operand) { part = part.After }) rest
 after_spaces r operand c cs rest all = let (here, more) = and_parts (c == 32) (list_all is_space cs) all in rw here (over_behind (tested r operand) cs rest more)
 
 -- what the rest of an expression gives after a test
-abbrev tests_of : Reading → List ℕ → Option (List ColumnTest)
+abbrev tests_of : ColumnReading → List ℕ → Option (List ColumnTest)
 tests_of r [] = Some r.tests
 tests_of r (c ∷ cs) = accept (record r { part = part.After }) (c ∷ cs)
 
-behind : (r : Reading) (operand : Operand) (a rest : List ℕ) → AnyOf is_space a → Closed rest → after r operand (a ++ rest) ≡ tests_of (tested r operand) rest
+behind : (r : ColumnReading) (operand : Operand) (a rest : List ℕ) → AnyOf is_space a → Closed rest → after r operand (a ++ rest) ≡ tests_of (tested r operand) rest
 behind r operand [] rest all (inl e) = rw e refl
 behind r operand [] rest all (inr (inl (cs, e))) = rw e refl
 behind r operand [] rest all (inr (inr (cs, e))) = rw e refl
@@ -228,15 +228,15 @@ behind r operand (c ∷ cs) rest all (inr (inl (ds, e))) = rw e (after_spaces r 
 behind r operand (c ∷ cs) rest all (inr (inr (ds, e))) = rw e (after_spaces r operand c cs (10 ∷ ds) all)
 
 -- a test, and what the rest gives
-record Accepted (r : Reading) (test : ColumnTest) (text rest : List ℕ) : Type 0 where
-  last : Reading
+record Accepted (r : ColumnReading) (test : ColumnTest) (text rest : List ℕ) : Type 0 where
+  last : ColumnReading
   tests_are : last.tests ≡ r.tests ++ test ∷ []
   is : accept (before r) (text ++ rest) ≡ tests_of last rest
 
 regroup : (a b c text rest : List ℕ) → text ≡ a ++ b → b ++ rest ≡ c → text ++ rest ≡ a ++ c
 regroup a b c text rest e f = ap (λ x. x ++ rest) e ∙ (append_assoc a b rest ∙ ap (λ x. a ++ x) f)
 
-test_accepted : (r : Reading) (test : ColumnTest) (text rest : List ℕ) → TestOf test text → Closed rest → Accepted r test text rest
+test_accepted : (r : ColumnReading) (test : ColumnTest) (text rest : List ℕ) → TestOf test text → Closed rest → Accepted r test text rest
 test_accepted r test text rest (a, t1, e1, spaces, (word, t2, e2, name, (b, t3, e3, more, (sign, t4, e4, is_sign, (c, t5, e5, still, (value, d, e6, is_value, last)))))) closed =
     let good = named_word test.old test.name word name in
     let whole : text ++ rest ≡ a ++ (word ++ (b ++ (sign ++ (c ++ (value ++ (d ++ rest)))))) =
@@ -259,11 +259,11 @@ test_accepted r test text rest (a, t1, e1, spaces, (word, t2, e2, name, (b, t3, 
     }
 
 -- all tests
-whole_end : (r : Reading) (end : List ℕ) → IsEnd end → tests_of r end ≡ Some r.tests
+whole_end : (r : ColumnReading) (end : List ℕ) → OptionalFeed end → tests_of r end ≡ Some r.tests
 whole_end r end (inl e) = rw e refl
 whole_end r end (inr e) = rw e refl
 
-closed_end : (end : List ℕ) → IsEnd end → Closed end
+closed_end : (end : List ℕ) → OptionalFeed end → Closed end
 closed_end end (inl e) = inl e
 closed_end end (inr e) = inr (inr ([], e))
 
@@ -272,12 +272,12 @@ closed_joint joint rest (inl e) = inr (inl (111 ∷ 114 ∷ 32 ∷ rest, ap (λ 
 closed_joint joint rest (inr e) = inr (inr (rest, ap (λ x. x ++ rest) e))
 
 -- some text stands after a joint
-over_joint : (r : Reading) (joint rest : List ℕ) → IsJoint joint → (v : List ColumnTest) → accept (before r) rest ≡ Some v → tests_of r (joint ++ rest) ≡ Some v
+over_joint : (r : ColumnReading) (joint rest : List ℕ) → IsJoint joint → (v : List ColumnTest) → accept (before r) rest ≡ Some v → tests_of r (joint ++ rest) ≡ Some v
 over_joint r joint rest (inl e) v f = rw e f
 over_joint r joint [] (inr e) v f = absurd (cc)
 over_joint r joint (c ∷ cs) (inr e) v f = rw e f
 
-whole : (tests : List ColumnTest) (r : Reading) (text end : List ℕ) → TestsOf tests text → IsEnd end → accept (before r) (text ++ end) ≡ Some (r.tests ++ tests)
+whole : (tests : List ColumnTest) (r : ColumnReading) (text end : List ℕ) → TestsOf tests text → OptionalFeed end → accept (before r) (text ++ end) ≡ Some (r.tests ++ tests)
 whole [] r text end is ends = absurd is
 whole (test ∷ []) r text end is ends =
     let q = test_accepted r test text end is (closed_end end ends) in

@@ -10,9 +10,9 @@ use Rattle.std.specs.Str.{all_scalars, bytes_eq}
 use Rattle.sds_types.specs.declared.lookup.Lookup.{Lookup}
 use Rattle.sds_expressions.specs.declared.lookup_router.LookupKey.{LookupKey}
 use Rattle.sds_expressions.specs.declared.lookup_router.LookupKey.TheVariants.{Table, Column, LookupColumn, ExternalId}
-use Rattle.sds_expressions.specs.declared.lookup_router.Part.{Part}
-use Rattle.sds_expressions.specs.declared.lookup_router.Part.TheVariants as part
-use Rattle.sds_expressions.specs.declared.lookup_router.Reading.{Reading}
+use Rattle.sds_expressions.specs.declared.lookup_router.LookupPart.{LookupPart}
+use Rattle.sds_expressions.specs.declared.lookup_router.LookupPart.TheVariants as part
+use Rattle.sds_expressions.specs.declared.lookup_router.LookupReading.{LookupReading}
 use Rattle.sds_expressions.proofs.Readings.{IsBadPlace}
 use Rattle.sds_value.specs.Names.{is_name_character}
 use Rattle.sds_expressions.specs.LookupRouter as lookup
@@ -20,38 +20,38 @@ use Rattle.sds_expressions.specs.LookupForm.{key_text}
 use Rattle.sds_expressions.proofs.ColumnHope.{front_is, rest_is, back_scalars}
 use Rattle.sds_expressions.proofs.Readings as readings
 
-abbrev CanEnd : Reading → Type 0
+abbrev CanEnd : LookupReading → Type 0
 CanEnd reading = readings.CanEnd lookup.step lookup.finish reading
 
-done : (reading : Reading) (value : Lookup) → lookup.finish reading ≡ Some value → CanEnd reading
+done : (reading : LookupReading) (value : Lookup) → lookup.finish reading ≡ Some value → CanEnd reading
 done reading value is = readings.done lookup.step lookup.finish reading value is
 
-one_more : (reading next : Reading) (c : ℕ) → lookup.step reading c ≡ Some next → scalar c ≡ true → CanEnd next → CanEnd reading
+one_more : (reading next : LookupReading) (c : ℕ) → lookup.step reading c ≡ Some next → scalar c ≡ true → CanEnd next → CanEnd reading
 one_more reading next c is good can = readings.one_more lookup.step lookup.finish reading next c is good can
 
 -- before a name stands a proper prefix of a key whose line is still to come; after the last line all four names are there
-record InKey (reading : Reading) : Type 0 where
+record InKey (reading : LookupReading) : Type 0 where
   key : LookupKey
   more : ℕ
   rest : List ℕ
   still : lookup.is_open reading key ≡ true
   is : key_text key ≡ reading.word ++ more ∷ rest
 
-abbrev HoldsAt : Part → Reading → Type 0
+abbrev HoldsAt : LookupPart → LookupReading → Type 0
 HoldsAt part.Key reading = InKey reading
 HoldsAt part.Name reading = Unit {0}
 HoldsAt part.Ended reading = (value : Lookup) × (lookup.lookup_of reading ≡ Some value)
 
-abbrev Holds : Reading → Type 0
+abbrev Holds : LookupReading → Type 0
 Holds reading = HoldsAt reading.part reading
 
-kept : (reading next : Reading) → Holds reading → Some reading ≡ Some next → Holds next
+kept : (reading next : LookupReading) → Holds reading → Some reading ≡ Some next → Holds next
 kept reading next holds e = let same : reading ≡ next = cc in subst Holds same holds
 
-gone : (next : Reading) → None ≡ Some next → Holds next
+gone : (next : LookupReading) → None ≡ Some next → Holds next
 gone next e = absurd (cc)
 
-branch : (t : Bool) (x y : Option Reading) (next : Reading) → (t ≡ true → x ≡ Some next → Holds next) → (y ≡ Some next → Holds next) → (if t then x else y) ≡ Some next → Holds next
+branch : (t : Bool) (x y : Option LookupReading) (next : LookupReading) → (t ≡ true → x ≡ Some next → Holds next) → (y ≡ Some next → Holds next) → (if t then x else y) ≡ Some next → Holds next
 branch true x y next f g e = f refl e
 branch false x y next f g e = g e
 
@@ -123,34 +123,34 @@ apart ExternalId Column c rest e = no_true (front_is (codes "EXTERNAL_ID_COLUMN=
 apart ExternalId LookupColumn c rest e = no_true (front_is (codes "EXTERNAL_ID_COLUMN=") (codes "LOOKUP_KEY_COLUMN=") (c ∷ rest) e)
 apart ExternalId ExternalId c rest e = no_more c rest (ap (drop 19) e)
 
-not_key : (key other : LookupKey) (reading : Reading) (word : List ℕ) (c : ℕ) (rest : List ℕ) → key_text key ≡ word ++ c ∷ rest → lookup.is_key reading word other ≡ false
+not_key : (key other : LookupKey) (reading : LookupReading) (word : List ℕ) (c : ℕ) (rest : List ℕ) → key_text key ≡ word ++ c ∷ rest → lookup.is_key reading word other ≡ false
 not_key key other reading word c rest e = at (bytes_eq word (key_text other)) refl
   where
     at : (t : Bool) → bytes_eq word (key_text other) ≡ t → (lookup.is_open reading other && bytes_eq word (key_text other)) ≡ false
     at true f = let same : word ≡ key_text other = (bytes_eq-Decides word (key_text other)).0 f in absurd (apart key other c rest (e ∙ ap (λ w. w ++ c ∷ rest) same))
     at false f = rw f (and_no (lookup.is_open reading other))
 
-pub not_whole : (key : LookupKey) (reading : Reading) (word : List ℕ) (c : ℕ) (rest : List ℕ) → key_text key ≡ word ++ c ∷ rest → lookup.key_of reading word ≡ None
+pub not_whole : (key : LookupKey) (reading : LookupReading) (word : List ℕ) (c : ℕ) (rest : List ℕ) → key_text key ≡ word ++ c ∷ rest → lookup.key_of reading word ≡ None
 not_whole key reading word c rest e =
     rw (not_key key Table reading word c rest e, not_key key Column reading word c rest e, not_key key LookupColumn reading word c rest e, not_key key ExternalId reading word c rest e) refl
 
-pub whole_key : (key : LookupKey) (reading : Reading) → lookup.is_open reading key ≡ true → lookup.key_of reading (key_text key) ≡ Some key
+pub whole_key : (key : LookupKey) (reading : LookupReading) → lookup.is_open reading key ≡ true → lookup.key_of reading (key_text key) ≡ Some key
 whole_key Table reading still = rw still refl
 whole_key Column reading still = rw (and_no (lookup.is_open reading Table), still) refl
 whole_key LookupColumn reading still = rw (and_no (lookup.is_open reading Table), and_no (lookup.is_open reading Column), still) refl
 whole_key ExternalId reading still = rw (and_no (lookup.is_open reading Table), and_no (lookup.is_open reading Column), and_no (lookup.is_open reading LookupColumn), still) refl
 
-pub begins_key : (key : LookupKey) (reading : Reading) (word rest : List ℕ) → lookup.is_open reading key ≡ true → key_text key ≡ word ++ rest → lookup.begins reading word ≡ true
+pub begins_key : (key : LookupKey) (reading : LookupReading) (word rest : List ℕ) → lookup.is_open reading key ≡ true → key_text key ≡ word ++ rest → lookup.begins reading word ≡ true
 begins_key key reading word rest still e =
     let this : lookup.begins_key reading word key ≡ true = rw (still, front_is (key_text key) word rest e) refl in
     any_of key (lookup.begins_key reading word Table) (lookup.begins_key reading word Column) (lookup.begins_key reading word LookupColumn) (lookup.begins_key reading word ExternalId)
     (chosen_is key (lookup.begins_key reading word) ∙ this)
 
 -- in a key, and after a line
-key_holds : (reading : Reading) → reading.part ≡ part.Key → InKey reading → Holds reading
-key_holds reading is holds = subst (λ (at : Part). HoldsAt at reading) (sym is) holds
+key_holds : (reading : LookupReading) → reading.part ≡ part.Key → InKey reading → Holds reading
+key_holds reading is holds = subst (λ (at : LookupPart). HoldsAt at reading) (sym is) holds
 
-key_kept : (reading next : Reading) (word : List ℕ) (key : Option LookupKey) → reading.part ≡ part.Key → lookup.key_of reading word ≡ key → lookup.key_read reading word key ≡ Some next → Holds next
+key_kept : (reading next : LookupReading) (word : List ℕ) (key : Option LookupKey) → reading.part ≡ part.Key → lookup.key_of reading word ≡ key → lookup.key_read reading word key ≡ Some next → Holds next
 key_kept reading next word (Some key) is none e = kept (record reading { word = []; key = key; part = part.Name }) next tt e
 key_kept reading next word None is none e = branch (lookup.begins reading word) (Some (record reading { word = word })) None next (λ test f. kept (record reading { word = word }) next (key_holds (record reading { word = word }) is (front test)) f) (gone next) e
   where
@@ -189,19 +189,19 @@ still_open (Some table) (Some column) None external_id e = (LookupColumn, refl)
 still_open (Some table) (Some column) (Some lookup_column) None e = (ExternalId, refl)
 still_open (Some table) (Some column) (Some lookup_column) (Some external_id) e = absurd (cc)
 
-key_to_come : (reading : Reading) → lookup.lookup_of reading ≡ None → (key : LookupKey) × (lookup.is_open reading key ≡ true)
+key_to_come : (reading : LookupReading) → lookup.lookup_of reading ≡ None → (key : LookupKey) × (lookup.is_open reading key ≡ true)
 key_to_come reading e =
     let found = still_open reading.table reading.column reading.lookup_column reading.external_id e in
     (found.0, sym (chosen_is found.0 (lookup.is_open reading)) ∙ found.1)
 
-line_kept : (line : Reading) (value : Option Lookup) → lookup.lookup_of line ≡ value → HoldsAt (lookup.part_after value) (lookup.next_line line)
+line_kept : (line : LookupReading) (value : Option Lookup) → lookup.lookup_of line ≡ value → HoldsAt (lookup.part_after value) (lookup.next_line line)
 line_kept line (Some value) e = (value, e)
 line_kept line None e =
     let found = key_to_come (lookup.next_line line) e in
     let head = key_head found.0 in
     record { key = found.0; more = head.0; rest = head.1; still = found.1; is = head.2 }
 
-step_kept : (at : Part) (reading next : Reading) (c : ℕ) → reading.part ≡ at → lookup.step_at at reading c ≡ Some next → Holds next
+step_kept : (at : LookupPart) (reading next : LookupReading) (c : ℕ) → reading.part ≡ at → lookup.step_at at reading c ≡ Some next → Holds next
 step_kept part.Key reading next c is e = key_kept reading next (reading.word ++ c ∷ []) (lookup.key_of reading (reading.word ++ c ∷ [])) is refl e
 step_kept part.Name reading next c is e =
     let line = lookup.with_line reading.key reading reading.word in
@@ -209,7 +209,7 @@ step_kept part.Name reading next c is e =
     (λ f. branch (c == 10 && nat_lt 0 (length reading.word)) _ _ next (λ _ g. kept (lookup.next_line line) next (line_kept line (lookup.lookup_of line) refl) g) (gone next) f) e
 step_kept part.Ended reading next c is e = absurd (cc)
 
-keeps : (reading next : Reading) (c : ℕ) → Holds reading → lookup.step reading c ≡ Some next → Holds next
+keeps : (reading next : LookupReading) (c : ℕ) → Holds reading → lookup.step reading c ≡ Some next → Holds next
 keeps reading next c holds e = step_kept reading.part reading next c refl e
 
 -- how many lines are still to come
@@ -217,7 +217,7 @@ abbrev gap : Option (List ℕ) → ℕ
 gap None = 1
 gap (Some name) = 0
 
-abbrev gaps : Reading → ℕ
+abbrev gaps : LookupReading → ℕ
 gaps reading = gap reading.table + (gap reading.column + (gap reading.lookup_column + gap reading.external_id))
 
 gap_is : (name : Option (List ℕ)) → not (is_some name) ≡ true → gap name ≡ 1
@@ -231,16 +231,16 @@ some_gap (Some table) (Some column) None external_id e = omega arith
 some_gap (Some table) (Some column) (Some lookup_column) None e = omega arith
 some_gap (Some table) (Some column) (Some lookup_column) (Some external_id) e = absurd (cc)
 
-abbrev before_name : LookupKey → Reading → Reading
+abbrev before_name : LookupKey → LookupReading → LookupReading
 before_name key reading = record reading { word = []; key = key; part = part.Name }
 
-fewer : (key : LookupKey) (reading : Reading) (most : ℕ) → lookup.is_open reading key ≡ true → gaps reading ≤ suc most → gaps (lookup.with_line key (before_name key reading) []) ≤ most
+fewer : (key : LookupKey) (reading : LookupReading) (most : ℕ) → lookup.is_open reading key ≡ true → gaps reading ≤ suc most → gaps (lookup.with_line key (before_name key reading) []) ≤ most
 fewer Table reading most still few = omega (arith, gap_is reading.table still, few)
 fewer Column reading most still few = omega (arith, gap_is reading.column still, few)
 fewer LookupColumn reading most still few = omega (arith, gap_is reading.lookup_column still, few)
 fewer ExternalId reading most still few = omega (arith, gap_is reading.external_id still, few)
 
-line_gaps : (key : LookupKey) (reading : Reading) (word name other : List ℕ) → gaps (lookup.with_line key reading name) ≡ gaps (lookup.with_line key (record reading { word = word }) other)
+line_gaps : (key : LookupKey) (reading : LookupReading) (word name other : List ℕ) → gaps (lookup.with_line key reading name) ≡ gaps (lookup.with_line key (record reading { word = word }) other)
 line_gaps Table reading word name other = refl
 line_gaps Column reading word name other = refl
 line_gaps LookupColumn reading word name other = refl
@@ -252,15 +252,15 @@ key_scalars Column = refl
 key_scalars LookupColumn = refl
 key_scalars ExternalId = refl
 
-more_open : (key : LookupKey) (reading : Reading) (word : List ℕ) → lookup.is_open reading key ≡ true → lookup.is_open (record reading { word = word }) key ≡ true
+more_open : (key : LookupKey) (reading : LookupReading) (word : List ℕ) → lookup.is_open reading key ≡ true → lookup.is_open (record reading { word = word }) key ≡ true
 more_open Table reading word h = h
 more_open Column reading word h = h
 more_open LookupColumn reading word h = h
 more_open ExternalId reading word h = h
 
 -- from within a key to its name
-can_key : (most : ℕ) → ((next : Reading) → next.part ≡ part.Name → gaps (lookup.with_line next.key next next.word) ≤ most → CanEnd next)
-    → (rest : List ℕ) (c : ℕ) (reading : Reading) (key : LookupKey) → reading.part ≡ part.Key → lookup.is_open reading key ≡ true → key_text key ≡ reading.word ++ c ∷ rest → gaps reading ≤ suc most → CanEnd reading
+can_key : (most : ℕ) → ((next : LookupReading) → next.part ≡ part.Name → gaps (lookup.with_line next.key next next.word) ≤ most → CanEnd next)
+    → (rest : List ℕ) (c : ℕ) (reading : LookupReading) (key : LookupKey) → reading.part ≡ part.Key → lookup.is_open reading key ≡ true → key_text key ≡ reading.word ++ c ∷ rest → gaps reading ≤ suc most → CanEnd reading
 can_key most name [] c reading key is still e few =
     let good : all_scalars (c ∷ []) ≡ true = back_scalars reading.word (c ∷ []) (ap all_scalars (sym e) ∙ key_scalars key) in
     let next = before_name key reading in
@@ -280,13 +280,13 @@ is_long word w ws e = rw e (longer (length ws))
     longer : (n : ℕ) → nat_lt 0 (suc n) ≡ true
     longer n = grind (arith, nat_tests)
 
-written : (most : ℕ) → ((line : Reading) → lookup.lookup_of line ≡ None → gaps line ≤ most → CanEnd (lookup.next_line line))
-    → (reading : Reading) (w : ℕ) (ws : List ℕ) → reading.part ≡ part.Name → reading.word ≡ w ∷ ws → gaps (lookup.with_line reading.key reading reading.word) ≤ most → CanEnd reading
+written : (most : ℕ) → ((line : LookupReading) → lookup.lookup_of line ≡ None → gaps line ≤ most → CanEnd (lookup.next_line line))
+    → (reading : LookupReading) (w : ℕ) (ws : List ℕ) → reading.part ≡ part.Name → reading.word ≡ w ∷ ws → gaps (lookup.with_line reading.key reading reading.word) ≤ most → CanEnd reading
 written most behind reading w ws is word few = at (lookup.lookup_of (lookup.with_line reading.key reading reading.word)) refl
   where
     at : (value : Option Lookup) → lookup.lookup_of (lookup.with_line reading.key reading reading.word) ≡ value → CanEnd reading
     at (Some value) e =
-        let ends : lookup.finish reading ≡ lookup.last_line reading reading.word = ap (λ (at : Part). lookup.lookup_at at reading) is in
+        let ends : lookup.finish reading ≡ lookup.last_line reading reading.word = ap (λ (at : LookupPart). lookup.lookup_at at reading) is in
         let last : lookup.last_line reading reading.word ≡ lookup.last_line reading (w ∷ ws) = ap (lookup.last_line reading) word in
         let line : lookup.lookup_of (lookup.with_line reading.key reading reading.word) ≡ lookup.last_line reading (w ∷ ws) = ap (λ (x : List ℕ). lookup.lookup_of (lookup.with_line reading.key reading x)) word in
         done reading value (ends ∙ (last ∙ (sym line ∙ e)))
@@ -295,15 +295,15 @@ written most behind reading w ws is word few = at (lookup.lookup_of (lookup.with
         let line = lookup.with_line reading.key reading reading.word in
         one_more reading (lookup.next_line line) 10 (rw (is, long) refl) refl (behind line e few)
 
-named : (most : ℕ) → ((line : Reading) → lookup.lookup_of line ≡ None → gaps line ≤ most → CanEnd (lookup.next_line line))
-    → (word : List ℕ) (reading : Reading) → reading.word ≡ word → reading.part ≡ part.Name → gaps (lookup.with_line reading.key reading reading.word) ≤ most → CanEnd reading
+named : (most : ℕ) → ((line : LookupReading) → lookup.lookup_of line ≡ None → gaps line ≤ most → CanEnd (lookup.next_line line))
+    → (word : List ℕ) (reading : LookupReading) → reading.word ≡ word → reading.part ≡ part.Name → gaps (lookup.with_line reading.key reading reading.word) ≤ most → CanEnd reading
 named most behind [] reading e is few =
     let next = record reading { word = 97 ∷ [] } in
     one_more reading next 97 (rw (is, e) refl) refl (written most behind next 97 [] is refl (subst (λ n. n ≤ most) (line_gaps reading.key reading (97 ∷ []) reading.word (97 ∷ [])) few))
 named most behind (w ∷ ws) reading e is few = written most behind reading w ws is e few
 
-next_key : (most : ℕ) → ((next : Reading) → next.part ≡ part.Name → gaps (lookup.with_line next.key next next.word) ≤ most → CanEnd next)
-    → (line : Reading) → lookup.lookup_of line ≡ None → gaps line ≤ suc most → CanEnd (lookup.next_line line)
+next_key : (most : ℕ) → ((next : LookupReading) → next.part ≡ part.Name → gaps (lookup.with_line next.key next next.word) ≤ most → CanEnd next)
+    → (line : LookupReading) → lookup.lookup_of line ≡ None → gaps line ≤ suc most → CanEnd (lookup.next_line line)
 next_key most name line none left =
     let next = lookup.next_line line in
     let at_key : next.part ≡ part.Key = rw none refl in
@@ -311,16 +311,16 @@ next_key most name line none left =
     let head = key_head found.0 in
     can_key most name head.1 head.0 next found.0 at_key found.1 head.2 left
 
-can_name : (most : ℕ) (reading : Reading) → reading.part ≡ part.Name → gaps (lookup.with_line reading.key reading reading.word) ≤ most → CanEnd reading
+can_name : (most : ℕ) (reading : LookupReading) → reading.part ≡ part.Name → gaps (lookup.with_line reading.key reading reading.word) ≤ most → CanEnd reading
 can_name zero reading is few = named 0 (λ line none none_left. absurd (omega (arith, some_gap line.table line.column line.lookup_column line.external_id none, none_left))) reading.word reading refl is few
 can_name (suc most) reading is few = named (suc most) (λ line none left. next_key most (can_name most) line none left) reading.word reading refl is few
 
-can_at : (at : Part) (reading : Reading) → reading.part ≡ at → HoldsAt at reading → CanEnd reading
+can_at : (at : LookupPart) (reading : LookupReading) → reading.part ≡ at → HoldsAt at reading → CanEnd reading
 can_at part.Key reading is holds = can_key (gaps reading) (can_name (gaps reading)) holds.rest holds.more reading holds.key is holds.still holds.is (omega arith)
 can_at part.Name reading is holds = can_name (gaps (lookup.with_line reading.key reading reading.word)) reading is (omega arith)
 can_at part.Ended reading is holds = done reading holds.0 (rw is holds.1)
 
-can : (reading : Reading) → Holds reading → CanEnd reading
+can : (reading : LookupReading) → Holds reading → CanEnd reading
 can reading holds = can_at reading.part reading refl holds
 
 -- the first bad place

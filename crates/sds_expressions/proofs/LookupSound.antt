@@ -8,29 +8,29 @@ use Rattle.sds_types.specs.declared.lookup.Lookup.{Lookup}
 use Rattle.sds_value.specs.Names.{is_name_text, is_name_character}
 use Rattle.sds_expressions.specs.declared.lookup_router.LookupKey.{LookupKey}
 use Rattle.sds_expressions.specs.declared.lookup_router.LookupKey.TheVariants.{Table, Column, LookupColumn, ExternalId}
-use Rattle.sds_expressions.specs.declared.lookup_router.Part.TheVariants as part
-use Rattle.sds_expressions.specs.declared.lookup_router.Reading.{Reading}
+use Rattle.sds_expressions.specs.declared.lookup_router.LookupPart.TheVariants as part
+use Rattle.sds_expressions.specs.declared.lookup_router.LookupReading.{LookupReading}
 use Rattle.sds_expressions.specs.LookupRouter as lookup
-use Rattle.sds_expressions.specs.LookupForm.{key_text, name_for, is_same_key, count_of, lines_of, IsLookupForm}
+use Rattle.sds_expressions.specs.LookupForm.{key_text, name_for, is_same_key, count_of, lookup_lines, IsLookupForm}
 use Rattle.sds_expressions.proofs.Accepting.{value_of, branch}
 
-abbrev pub accept : Reading → List ℕ → Option Lookup
+abbrev pub accept : LookupReading → List ℕ → Option Lookup
 accept reading text = value_of lookup.step lookup.finish reading text
 
-abbrev pub on : List ℕ → Reading → Option Lookup
+abbrev pub on : List ℕ → LookupReading → Option Lookup
 on text reading = accept reading text
 
-abbrev pub in_key : Reading → List ℕ → Reading
+abbrev pub in_key : LookupReading → List ℕ → LookupReading
 in_key reading word = record reading { word = word; part = part.Key }
 
-abbrev pub in_name : Reading → LookupKey → List ℕ → Reading
+abbrev pub in_name : LookupReading → LookupKey → List ℕ → LookupReading
 in_name reading key word = record reading { key = key; word = word; part = part.Name }
 
 -- the reading with a line
-abbrev pub line : Reading → LookupKey → List ℕ → Reading
+abbrev pub line : LookupReading → LookupKey → List ℕ → LookupReading
 line reading key word = lookup.with_line key (in_name reading key word) word
 
-abbrev pub after : Reading → List ℕ → Option Lookup
+abbrev pub after : LookupReading → List ℕ → Option Lookup
 after reading [] = lookup.lookup_of reading
 after reading (c ∷ cs) = option_and_then (on cs) (if c == 10 then Some (lookup.next_line reading) else None)
 
@@ -48,31 +48,31 @@ own_key Column = refl
 own_key LookupColumn = refl
 own_key ExternalId = refl
 
-pub line_open : (key other : LookupKey) (r : Reading) (word : List ℕ) → lookup.is_open (line r other word) key ≡ (if is_same_key key other then false else lookup.is_open r key)
+pub line_open : (key other : LookupKey) (r : LookupReading) (word : List ℕ) → lookup.is_open (line r other word) key ≡ (if is_same_key key other then false else lookup.is_open r key)
 line_open Table Table r word = refl
 line_open Column Column r word = refl
 line_open LookupColumn LookupColumn r word = refl
 line_open ExternalId ExternalId r word = refl
 line_open key other r word = refl
 
-pub line_found : (key other : LookupKey) (r : Reading) (word : List ℕ) → lookup.found key (line r other word) ≡ (if is_same_key key other then Some word else lookup.found key r)
+pub line_found : (key other : LookupKey) (r : LookupReading) (word : List ℕ) → lookup.found key (line r other word) ≡ (if is_same_key key other then Some word else lookup.found key r)
 line_found Table Table r word = refl
 line_found Column Column r word = refl
 line_found LookupColumn LookupColumn r word = refl
 line_found ExternalId ExternalId r word = refl
 line_found key other r word = refl
 
-pub key_open : (key : LookupKey) (r : Reading) (word : List ℕ) → lookup.is_open (in_key r word) key ≡ lookup.is_open r key
+pub key_open : (key : LookupKey) (r : LookupReading) (word : List ℕ) → lookup.is_open (in_key r word) key ≡ lookup.is_open r key
 key_open Table r word = refl
 key_open Column r word = refl
 key_open LookupColumn r word = refl
 key_open ExternalId r word = refl
 
 -- a whole key
-key_is : (reading : Reading) (word : List ℕ) (key : LookupKey) → lookup.is_key reading word key ≡ true → (lookup.is_open reading key ≡ true) × (word ≡ key_text key)
+key_is : (reading : LookupReading) (word : List ℕ) (key : LookupKey) → lookup.is_key reading word key ≡ true → (lookup.is_open reading key ≡ true) × (word ≡ key_text key)
 key_is reading word key e = let (still, same) = and_parts (lookup.is_open reading key) (bytes_eq word (key_text key)) e in (still, (bytes_eq-Decides word (key_text key)).0 same)
 
-key_found : (reading : Reading) (word : List ℕ) (key : LookupKey) → lookup.key_of reading word ≡ Some key → (lookup.is_open reading key ≡ true) × (word ≡ key_text key)
+key_found : (reading : LookupReading) (word : List ℕ) (key : LookupKey) → lookup.key_of reading word ≡ Some key → (lookup.is_open reading key ≡ true) × (word ≡ key_text key)
 key_found reading word key e = at (lookup.is_key reading word Table) (lookup.is_key reading word Column) (lookup.is_key reading word LookupColumn) (lookup.is_key reading word ExternalId) refl refl refl refl e
   where
     this : (other : LookupKey) → lookup.is_key reading word other ≡ true → Some other ≡ Some key → (lookup.is_open reading key ≡ true) × (word ≡ key_text key)
@@ -86,7 +86,7 @@ key_found reading word key e = at (lookup.is_key reading word Table) (lookup.is_
     at false false false true f g h i more = this ExternalId i more
     at false false false false f g h i more = absurd (cc)
 
-record KeyRead (r : Reading) (w cs : List ℕ) (v : Lookup) : Type 0 where
+record KeyRead (r : LookupReading) (w cs : List ℕ) (v : Lookup) : Type 0 where
   key : LookupKey
   word : List ℕ
   rest : List ℕ
@@ -95,7 +95,7 @@ record KeyRead (r : Reading) (w cs : List ℕ) (v : Lookup) : Type 0 where
   still : lookup.is_open r key ≡ true
   more : accept (in_name r key []) rest ≡ Some v
 
-to_key : (r : Reading) (w cs : List ℕ) (v : Lookup) → accept (in_key r w) cs ≡ Some v → KeyRead r w cs v
+to_key : (r : LookupReading) (w cs : List ℕ) (v : Lookup) → accept (in_key r w) cs ≡ Some v → KeyRead r w cs v
 to_key r w [] v e = absurd (cc)
 to_key r w (c ∷ cs) v e = at (lookup.key_of (in_key r w) (w ++ c ∷ [])) refl (λ f. longer (to_key r (w ++ c ∷ []) cs v f)) e
   where
@@ -109,7 +109,7 @@ to_key r w (c ∷ cs) v e = at (lookup.key_of (in_key r w) (w ++ c ∷ [])) refl
     at None is again f = branch (on cs) v (lookup.begins (in_key r w) (w ++ c ∷ [])) _ _ (λ _ g. again g) (λ _ g. absurd (cc)) f
 
 -- a name, to the end of its line
-record NameRead (r : Reading) (key : LookupKey) (w cs : List ℕ) (v : Lookup) : Type 0 where
+record NameRead (r : LookupReading) (key : LookupKey) (w cs : List ℕ) (v : Lookup) : Type 0 where
   word : List ℕ
   rest : List ℕ
   is : cs ≡ word ++ rest
@@ -127,7 +127,7 @@ one_longer w c e = let l : length (w ++ c ∷ []) ≡ length w + 1 = length-appe
 counted : (c : ℕ) (cs : List ℕ) → nat_le 1 (length (c ∷ cs)) ≡ true
 counted c cs = grind (arith, nat_tests)
 
-to_line : (r : Reading) (key : LookupKey) (w cs : List ℕ) (v : Lookup) → nat_le (length w) 50 ≡ true → accept (in_name r key w) cs ≡ Some v → NameRead r key w cs v
+to_line : (r : LookupReading) (key : LookupKey) (w cs : List ℕ) (v : Lookup) → nat_le (length w) 50 ≡ true → accept (in_name r key w) cs ≡ Some v → NameRead r key w cs v
 to_line r key [] [] v short e = absurd (cc)
 to_line r key (x ∷ xs) [] v short e = record { word = []; rest = []; is = refl; all = refl; short = rw (append-nil xs) short; some = rw (append-nil xs) (counted x xs); more = rw (append-nil xs) e }
 to_line r key w (c ∷ cs) v short e =
@@ -163,10 +163,10 @@ four_found (Some a) (Some b) (Some c) (Some d) v e =
     subst (λ (x : Lookup). (Some a ≡ Some x.table) × (Some b ≡ Some x.column) × (Some c ≡ Some x.lookup_column) × (Some d ≡ Some x.external_id)) same (refl, refl, refl, refl)
 
 -- the names that are read are those of the lookup
-abbrev pub Fits : Reading → Lookup → Type 0
+abbrev pub Fits : LookupReading → Lookup → Type 0
 Fits r v = (key : LookupKey) → lookup.is_open r key ≡ false → lookup.found key r ≡ Some (name_for key v)
 
-whole_fits : (r : Reading) (v : Lookup) → lookup.lookup_of r ≡ Some v → (key : LookupKey) → lookup.found key r ≡ Some (name_for key v)
+whole_fits : (r : LookupReading) (v : Lookup) → lookup.lookup_of r ≡ Some v → (key : LookupKey) → lookup.found key r ≡ Some (name_for key v)
 whole_fits r v e key = at key (four_found r.table r.column r.lookup_column r.external_id v e)
   where
     at : (key : LookupKey) → (r.table ≡ Some v.table) × (r.column ≡ Some v.column) × (r.lookup_column ≡ Some v.lookup_column) × (r.external_id ≡ Some v.external_id) → lookup.found key r ≡ Some (name_for key v)
@@ -175,7 +175,7 @@ whole_fits r v e key = at key (four_found r.table r.column r.lookup_column r.ext
     at LookupColumn (a, b, c, d) = c
     at ExternalId (a, b, c, d) = d
 
-found_closed : (key : LookupKey) (r : Reading) (name : List ℕ) → lookup.found key r ≡ Some name → lookup.is_open r key ≡ false
+found_closed : (key : LookupKey) (r : LookupReading) (name : List ℕ) → lookup.found key r ≡ Some name → lookup.is_open r key ≡ false
 found_closed Table r name e = rw e refl
 found_closed Column r name e = rw e refl
 found_closed LookupColumn r name e = rw e refl
@@ -186,21 +186,21 @@ abbrev pub waits : Bool → ℕ
 waits true = 1
 waits false = 0
 
-record LinesRead (r : Reading) (cs : List ℕ) (v : Lookup) : Type 0 where
+record LinesRead (r : LookupReading) (cs : List ℕ) (v : Lookup) : Type 0 where
   first : LookupKey
   others : List LookupKey
   once : (key : LookupKey) → count_of key (first ∷ others) ≡ waits (lookup.is_open r key)
   fits : Fits r v
   names : (key : LookupKey) → lookup.is_open r key ≡ true → is_name_text (name_for key v) ≡ true
-  is : (cs ≡ lines_of v (first ∷ others)) ⊎ (cs ≡ lines_of v (first ∷ others) ++ 10 ∷ [])
+  is : (cs ≡ lookup_lines v (first ∷ others)) ⊎ (cs ≡ lookup_lines v (first ∷ others) ++ 10 ∷ [])
 
 -- what is known after a line, at the last one or another
-record Rest (r : Reading) (keys : List LookupKey) (v : Lookup) : Type 0 where
+record Rest (r : LookupReading) (keys : List LookupKey) (v : Lookup) : Type 0 where
   once : (key : LookupKey) → count_of key keys ≡ waits (lookup.is_open r key)
   fits : Fits r v
   names : (key : LookupKey) → lookup.is_open r key ≡ true → is_name_text (name_for key v) ≡ true
 
-no_rest : (r : Reading) (v : Lookup) → lookup.lookup_of r ≡ Some v → Rest r [] v
+no_rest : (r : LookupReading) (v : Lookup) → lookup.lookup_of r ≡ Some v → Rest r [] v
 no_rest r v e =
     let all = whole_fits r v e in
     record {
@@ -210,7 +210,7 @@ no_rest r v e =
     }
 
 -- one line more before them
-more_lines : (r : Reading) (key : LookupKey) (word : List ℕ) (keys : List LookupKey) (v : Lookup) → lookup.is_open r key ≡ true → is_name_text word ≡ true → Rest (line r key word) keys v
+more_lines : (r : LookupReading) (key : LookupKey) (word : List ℕ) (keys : List LookupKey) (v : Lookup) → lookup.is_open r key ≡ true → is_name_text word ≡ true → Rest (line r key word) keys v
     → (name_for key v ≡ word) × Rest r (key ∷ keys) v
 more_lines r key word keys v still good rest = (this, record { once = once; fits = fits; names = names })
   where
@@ -277,7 +277,7 @@ next_lines cs key name word more text c ten same e (inr f) =
     inr (rw same (e ∙ (ap (λ x. key ++ x) inner ∙ outer)))
 
 -- one line, with what follows it
-with_line : (r : Reading) (cs : List ℕ) (v : Lookup) (q : KeyRead r [] cs v) (p : NameRead r q.key [] q.rest v)
+with_line : (r : LookupReading) (cs : List ℕ) (v : Lookup) (q : KeyRead r [] cs v) (p : NameRead r q.key [] q.rest v)
     → ((more : List ℕ) (c : ℕ) → p.rest ≡ c ∷ more → accept (in_key (line r q.key p.word) []) more ≡ Some v → LinesRead (line r q.key p.word) more v) → LinesRead r cs v
 with_line r cs v q p again = by p.rest refl p.more
   where
@@ -293,9 +293,9 @@ with_line r cs v q p again = by p.rest refl p.more
         let whole = last_line cs (key_text q.key) (name_for q.key v) p.word rest m.0 (cut rest e) in
         record { first = q.key; others = []; once = m.1.once; fits = m.1.fits; names = m.1.names; is = at whole ends }
       where
-        at : cs ≡ lines_of v (q.key ∷ []) ++ rest → (rest ≡ []) ⊎ (rest ≡ 10 ∷ []) → (cs ≡ lines_of v (q.key ∷ [])) ⊎ (cs ≡ lines_of v (q.key ∷ []) ++ 10 ∷ [])
-        at whole (inl g) = inl (whole ∙ (ap (λ x. lines_of v (q.key ∷ []) ++ x) g ∙ append-nil (lines_of v (q.key ∷ []))))
-        at whole (inr g) = inr (whole ∙ ap (λ x. lines_of v (q.key ∷ []) ++ x) g)
+        at : cs ≡ lookup_lines v (q.key ∷ []) ++ rest → (rest ≡ []) ⊎ (rest ≡ 10 ∷ []) → (cs ≡ lookup_lines v (q.key ∷ [])) ⊎ (cs ≡ lookup_lines v (q.key ∷ []) ++ 10 ∷ [])
+        at whole (inl g) = inl (whole ∙ (ap (λ x. lookup_lines v (q.key ∷ []) ++ x) g ∙ append-nil (lookup_lines v (q.key ∷ []))))
+        at whole (inr g) = inr (whole ∙ ap (λ x. lookup_lines v (q.key ∷ []) ++ x) g)
 
     ends : (c : ℕ) (more : List ℕ) → p.rest ≡ c ∷ more → c ≡ 10 → accept (record (line r q.key p.word) { word = []; part = part.Ended }) more ≡ Some v → LinesRead r cs v
     ends c [] e ten f = last (c ∷ []) e (inr (ap (λ x. x ∷ []) ten)) f
@@ -310,7 +310,7 @@ with_line r cs v q p again = by p.rest refl p.more
           once = m.1.once;
           fits = m.1.fits;
           names = m.1.names;
-          is = next_lines cs (key_text q.key) (name_for q.key v) p.word more (lines_of v (l.first ∷ l.others)) c ten m.0 (cut (c ∷ more) e) l.is;
+          is = next_lines cs (key_text q.key) (name_for q.key v) p.word more (lookup_lines v (l.first ∷ l.others)) c ten m.0 (cut (c ∷ more) e) l.is;
         }
 
     at : (o : Option Lookup) → lookup.lookup_of (line r q.key p.word) ≡ o → (c : ℕ) (more : List ℕ) → p.rest ≡ c ∷ more → c ≡ 10
@@ -322,7 +322,7 @@ with_line r cs v q p again = by p.rest refl p.more
     by [] e f = last [] e (inl refl) f
     by (c ∷ more) e f = branch (on more) v (c == 10) _ _ (λ t g. at (lookup.lookup_of (line r q.key p.word)) refl c more e (eqb-true c 10 t) g) (λ t g. absurd (cc)) f
 
-lines : (n : ℕ) (r : Reading) (cs : List ℕ) (v : Lookup) → length cs ≤ n → accept (in_key r []) cs ≡ Some v → LinesRead r cs v
+lines : (n : ℕ) (r : LookupReading) (cs : List ℕ) (v : Lookup) → length cs ≤ n → accept (in_key r []) cs ≡ Some v → LinesRead r cs v
 lines zero r [] v most e = absurd (cc)
 lines zero r (c ∷ cs) v most e = absurd (omega (arith, most))
 lines (suc n) r cs v most e =

@@ -7,14 +7,14 @@ use Rattle.sds_types.specs.declared.lookup.Lookup.{Lookup}
 use Rattle.sds_value.specs.Names.{is_name_text, is_name_character}
 use Rattle.sds_expressions.specs.declared.lookup_router.LookupKey.{LookupKey}
 use Rattle.sds_expressions.specs.declared.lookup_router.LookupKey.TheVariants.{Table, Column, LookupColumn, ExternalId}
-use Rattle.sds_expressions.specs.declared.lookup_router.Reading.{Reading}
+use Rattle.sds_expressions.specs.declared.lookup_router.LookupReading.{LookupReading}
 use Rattle.sds_expressions.specs.LookupRouter as lookup
-use Rattle.sds_expressions.specs.LookupForm.{key_text, name_for, is_same_key, count_of, IsOrder, lines_of, HasNames, IsLookupForm}
+use Rattle.sds_expressions.specs.LookupForm.{key_text, name_for, is_same_key, count_of, IsOrder, lookup_lines, HasNames, IsLookupForm}
 use Rattle.sds_expressions.proofs.LookupHope.{whole_key, not_whole, begins_key, key_head}
 use Rattle.sds_expressions.proofs.LookupSound.{accept, in_key, in_name, line, after, same_key, own_key, line_open, line_found, key_open, Fits, waits}
 
 -- a key
-over_key : (r : Reading) (key : LookupKey) (w : List ℕ) (c : ℕ) (cs rest : List ℕ) → lookup.is_open r key ≡ true → key_text key ≡ w ++ c ∷ cs → accept (in_key r w) ((c ∷ cs) ++ rest) ≡ accept (in_name r key []) rest
+over_key : (r : LookupReading) (key : LookupKey) (w : List ℕ) (c : ℕ) (cs rest : List ℕ) → lookup.is_open r key ≡ true → key_text key ≡ w ++ c ∷ cs → accept (in_key r w) ((c ∷ cs) ++ rest) ≡ accept (in_name r key []) rest
 over_key r key w c [] rest still e =
     let open_here : lookup.is_open (in_key r w) key ≡ true = key_open key r w ∙ still in
     let whole : lookup.key_of (in_key r w) (w ++ c ∷ []) ≡ Some key = ap (lookup.key_of (in_key r w)) (sym e) ∙ whole_key key (in_key r w) open_here in
@@ -25,7 +25,7 @@ over_key r key w c (d ∷ ds) rest still e =
     rw (not_whole key (in_key r w) (w ++ c ∷ []) d ds longer, begins_key key (in_key r w) (w ++ c ∷ []) (d ∷ ds) open_here longer)
     (over_key r key (w ++ c ∷ []) d ds rest still longer)
 
-whole_key_read : (r : Reading) (key : LookupKey) (rest : List ℕ) → lookup.is_open r key ≡ true → accept (in_key r []) (key_text key ++ rest) ≡ accept (in_name r key []) rest
+whole_key_read : (r : LookupReading) (key : LookupKey) (rest : List ℕ) → lookup.is_open r key ≡ true → accept (in_key r []) (key_text key ++ rest) ≡ accept (in_name r key []) rest
 whole_key_read r key rest still =
     let head = key_head key in
     ap (λ x. accept (in_key r []) (x ++ rest)) head.2 ∙ over_key r key [] head.0 head.1 rest still head.2
@@ -34,7 +34,7 @@ whole_key_read r key rest still =
 one_less : (w a : List ℕ) (c : ℕ) → nat_le (length (w ++ c ∷ a)) 50 ≡ true → nat_lt (length w) 50 ≡ true
 one_less w a c e = let l : length (w ++ c ∷ a) ≡ length w + length (c ∷ a) = length-append w (c ∷ a) in grind (arith, nat_tests)
 
-over_name : (r : Reading) (key : LookupKey) (w a rest : List ℕ) → list_all is_name_character a ≡ true → nat_le (length (w ++ a)) 50 ≡ true → accept (in_name r key w) (a ++ rest) ≡ accept (in_name r key (w ++ a)) rest
+over_name : (r : LookupReading) (key : LookupKey) (w a rest : List ℕ) → list_all is_name_character a ≡ true → nat_le (length (w ++ a)) 50 ≡ true → accept (in_name r key w) (a ++ rest) ≡ accept (in_name r key (w ++ a)) rest
 over_name r key w [] rest all short = ap (λ x. accept (in_name r key x) rest) (sym (append-nil w))
 over_name r key w (c ∷ cs) rest all short =
     let (here, more) = and_parts (is_name_character c) (list_all is_name_character cs) all in
@@ -48,12 +48,12 @@ counts c cs = grind (arith, nat_tests)
 abbrev Closed : List ℕ → Type 0
 Closed rest = (rest ≡ []) ⊎ ((more : List ℕ) × (rest ≡ 10 ∷ more))
 
-end_line : (r : Reading) (key : LookupKey) (word rest : List ℕ) → is_name_text word ≡ true → Closed rest → accept (in_name r key word) rest ≡ after (line r key word) rest
+end_line : (r : LookupReading) (key : LookupKey) (word rest : List ℕ) → is_name_text word ≡ true → Closed rest → accept (in_name r key word) rest ≡ after (line r key word) rest
 end_line r key [] rest good closed = let none : false ≡ true = good in absurd (cc)
 end_line r key (c ∷ cs) rest good (inl e) = rw e refl
 end_line r key (c ∷ cs) rest good (inr (more, e)) = rw (e, counts c cs) refl
 
-line_read : (r : Reading) (key : LookupKey) (word rest : List ℕ) → lookup.is_open r key ≡ true → is_name_text word ≡ true → Closed rest
+line_read : (r : LookupReading) (key : LookupKey) (word rest : List ℕ) → lookup.is_open r key ≡ true → is_name_text word ≡ true → Closed rest
     → accept (in_key r []) (key_text key ++ (word ++ rest)) ≡ after (line r key word) rest
 line_read r key word rest still good closed =
     let some = (and_parts (nat_le 1 (length word)) _ good).1 in
@@ -69,12 +69,12 @@ not_waiting : (t : Bool) → 0 ≡ waits t → t ≡ false
 not_waiting true e = absurd (omega (arith, e))
 not_waiting false e = refl
 
-first_open : (r : Reading) (key : LookupKey) (keys : List LookupKey) → ((other : LookupKey) → count_of other (key ∷ keys) ≡ waits (lookup.is_open r other)) → lookup.is_open r key ≡ true
+first_open : (r : LookupReading) (key : LookupKey) (keys : List LookupKey) → ((other : LookupKey) → count_of other (key ∷ keys) ≡ waits (lookup.is_open r other)) → lookup.is_open r key ≡ true
 first_open r key keys once =
     let one : count_of key (key ∷ keys) ≡ 1 + count_of key keys = rw (own_key key) refl in
     is_waiting (lookup.is_open r key) (count_of key keys) (sym one ∙ once key)
 
-once_more : (r : Reading) (key : LookupKey) (word : List ℕ) (keys : List LookupKey) → ((other : LookupKey) → count_of other (key ∷ keys) ≡ waits (lookup.is_open r other))
+once_more : (r : LookupReading) (key : LookupKey) (word : List ℕ) (keys : List LookupKey) → ((other : LookupKey) → count_of other (key ∷ keys) ≡ waits (lookup.is_open r other))
     → (other : LookupKey) → count_of other keys ≡ waits (lookup.is_open (line r key word) other)
 once_more r key word keys once other = at (is_same_key other key) refl
   where
@@ -95,7 +95,7 @@ once_more r key word keys once other = at (is_same_key other key) refl
         let both : 0 + count_of other keys ≡ waits (lookup.is_open r other) = rw e at start in
         rw same (omega (arith, both))
 
-fits_more : (r : Reading) (key : LookupKey) (v : Lookup) → Fits r v → Fits (line r key (name_for key v)) v
+fits_more : (r : LookupReading) (key : LookupKey) (v : Lookup) → Fits r v → Fits (line r key (name_for key v)) v
 fits_more r key v fits other closed = at (is_same_key other key) refl
   where
     at : (t : Bool) → is_same_key other key ≡ t → lookup.found other (line r key (name_for key v)) ≡ Some (name_for other v)
@@ -103,7 +103,7 @@ fits_more r key v fits other closed = at (is_same_key other key) refl
     at false e = line_found other key r (name_for key v) ∙ rw e (fits other (sym (line_open other key r (name_for key v) ∙ rw e refl) ∙ closed))
 
 -- the lookup where no line is still to come, and where one is
-all_found : (r : Reading) (v : Lookup) → ((key : LookupKey) → lookup.found key r ≡ Some (name_for key v)) → lookup.lookup_of r ≡ Some v
+all_found : (r : LookupReading) (v : Lookup) → ((key : LookupKey) → lookup.found key r ≡ Some (name_for key v)) → lookup.lookup_of r ≡ Some v
 all_found r v found =
     let table : r.table ≡ Some v.table = found Table in
     let column : r.column ≡ Some v.column = found Column in
@@ -121,7 +121,7 @@ some_open (Some a) (Some b) (Some c) (Some d) Column e = absurd (cc)
 some_open (Some a) (Some b) (Some c) (Some d) LookupColumn e = absurd (cc)
 some_open (Some a) (Some b) (Some c) (Some d) ExternalId e = absurd (cc)
 
-still_open : (r : Reading) (key : LookupKey) → lookup.is_open r key ≡ true → lookup.lookup_of r ≡ None
+still_open : (r : LookupReading) (key : LookupKey) → lookup.is_open r key ≡ true → lookup.lookup_of r ≡ None
 still_open r key e = some_open r.table r.column r.lookup_column r.external_id key (same key ∙ e)
   where
     same : (key : LookupKey) → lookup.is_open (record lookup.beginning { table = r.table; column = r.column; lookup_column = r.lookup_column; external_id = r.external_id }) key ≡ lookup.is_open r key
@@ -131,22 +131,22 @@ still_open r key e = some_open r.table r.column r.lookup_column r.external_id ke
     same ExternalId = refl
 
 -- all lines
-abbrev IsEnd : List ℕ → Type 0
-IsEnd text = (text ≡ []) ⊎ (text ≡ 10 ∷ [])
+abbrev OptionalFeed : List ℕ → Type 0
+OptionalFeed text = (text ≡ []) ⊎ (text ≡ 10 ∷ [])
 
-whole_end : (r : Reading) (v : Lookup) (end : List ℕ) → lookup.lookup_of r ≡ Some v → IsEnd end → after r end ≡ Some v
+whole_end : (r : LookupReading) (v : Lookup) (end : List ℕ) → lookup.lookup_of r ≡ Some v → OptionalFeed end → after r end ≡ Some v
 whole_end r v end e (inl f) = rw f e
 whole_end r v end e (inr f) = rw (f, e) e
 
-next_line : (r : Reading) (rest : List ℕ) → lookup.lookup_of r ≡ None → after r (10 ∷ rest) ≡ accept (in_key r []) rest
+next_line : (r : LookupReading) (rest : List ℕ) → lookup.lookup_of r ≡ None → after r (10 ∷ rest) ≡ accept (in_key r []) rest
 next_line r rest e = rw e refl
 
-closed_end : (end : List ℕ) → IsEnd end → Closed end
+closed_end : (end : List ℕ) → OptionalFeed end → Closed end
 closed_end end (inl e) = inl e
 closed_end end (inr e) = inr ([], e)
 
-whole : (keys : List LookupKey) (key : LookupKey) (r : Reading) (v : Lookup) (end : List ℕ) → ((other : LookupKey) → count_of other (key ∷ keys) ≡ waits (lookup.is_open r other)) → Fits r v → HasNames v → IsEnd end
-    → accept (in_key r []) (lines_of v (key ∷ keys) ++ end) ≡ Some v
+whole : (keys : List LookupKey) (key : LookupKey) (r : LookupReading) (v : Lookup) (end : List ℕ) → ((other : LookupKey) → count_of other (key ∷ keys) ≡ waits (lookup.is_open r other)) → Fits r v → HasNames v → OptionalFeed end
+    → accept (in_key r []) (lookup_lines v (key ∷ keys) ++ end) ≡ Some v
 whole [] key r v end once fits names ends =
     let l = line r key (name_for key v) in
     let none = once_more r key (name_for key v) [] once in
@@ -155,10 +155,10 @@ whole [] key r v end once fits names ends =
     ∙ (line_read r key (name_for key v) end (first_open r key [] once) (names key) (closed_end end ends) ∙ whole_end l v end found ends)
 whole (next ∷ keys) key r v end once fits names ends =
     let l = line r key (name_for key v) in
-    let rest = lines_of v (next ∷ keys) ++ end in
+    let rest = lookup_lines v (next ∷ keys) ++ end in
     let others = once_more r key (name_for key v) (next ∷ keys) once in
-    let cut : lines_of v (key ∷ next ∷ keys) ++ end ≡ key_text key ++ (name_for key v ++ 10 ∷ rest) =
-    append_assoc (key_text key) (name_for key v ++ 10 ∷ lines_of v (next ∷ keys)) end ∙ ap (λ x. key_text key ++ x) (append_assoc (name_for key v) (10 ∷ lines_of v (next ∷ keys)) end) in
+    let cut : lookup_lines v (key ∷ next ∷ keys) ++ end ≡ key_text key ++ (name_for key v ++ 10 ∷ rest) =
+    append_assoc (key_text key) (name_for key v ++ 10 ∷ lookup_lines v (next ∷ keys)) end ∙ ap (λ x. key_text key ++ x) (append_assoc (name_for key v) (10 ∷ lookup_lines v (next ∷ keys)) end) in
     ap (accept (in_key r [])) cut
     ∙ (line_read r key (name_for key v) (10 ∷ rest) (first_open r key (next ∷ keys) once) (names key) (inr (rest, refl))
     ∙ (next_line l rest (still_open l next (first_open l next keys others)) ∙ whole keys next l v end others (fits_more r key v fits) names ends))
@@ -182,6 +182,6 @@ complete text v (names, key ∷ keys, once, ends) = at ends
     counts : (other : LookupKey) → count_of other (key ∷ keys) ≡ waits (lookup.is_open lookup.beginning other)
     counts other = once other ∙ ap waits (sym (all_open other))
 
-    at : (text ≡ lines_of v (key ∷ keys)) ⊎ (text ≡ lines_of v (key ∷ keys) ++ 10 ∷ []) → accept lookup.beginning text ≡ Some v
-    at (inl e) = ap (accept lookup.beginning) (e ∙ sym (append-nil (lines_of v (key ∷ keys)))) ∙ whole keys key lookup.beginning v [] counts fits names (inl refl)
+    at : (text ≡ lookup_lines v (key ∷ keys)) ⊎ (text ≡ lookup_lines v (key ∷ keys) ++ 10 ∷ []) → accept lookup.beginning text ≡ Some v
+    at (inl e) = ap (accept lookup.beginning) (e ∙ sym (append-nil (lookup_lines v (key ∷ keys)))) ∙ whole keys key lookup.beginning v [] counts fits names (inl refl)
     at (inr e) = ap (accept lookup.beginning) e ∙ whole keys key lookup.beginning v (10 ∷ []) counts fits names (inr refl)

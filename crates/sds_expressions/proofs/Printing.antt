@@ -16,7 +16,7 @@ use Rattle.sds_expressions.specs.declared.lookup_router.LookupKey.TheVariants.{T
 use Rattle.sds_expressions.specs.ColumnForm.{begins_old, quoted, NameOf, SignOf, TestOf, TestsOf, IsColumnForm}
 use Rattle.sds_expressions.specs.ColumnForm as column
 use Rattle.sds_expressions.specs.LookupForm.{HasNames, IsOrder, IsLookupForm}
-use Rattle.sds_expressions.specs.SubselectForm.{Keyword, keyword_of, ValueOf, ConditionOf, SpacingAfter, ConditionsOf, IsSubselectForm}
+use Rattle.sds_expressions.specs.SubselectForm.{Keyword, keyword_of, ComparedOf, ConditionOf, SpacingAfter, ConditionsOf, IsSubselectForm}
 use Rattle.sds_expressions.proofs.Accepting.{joined}
 use Rattle.sds_expressions.specs.Printed.{IsTest, text_of_name, text_of_sign, text_of_operand, text_of_test, text_of_tests, text_of_lookup, IsCompared, IsCondition, IsChoice, text_of_compared, text_of_condition, text_of_conditions, text_of_choice}
 
@@ -29,7 +29,7 @@ sign_written : (differs : Bool) → SignOf differs (text_of_sign differs)
 sign_written true = refl
 sign_written false = refl
 
-operand_written : (value : Operand) → column.ValueOf value (text_of_operand value)
+operand_written : (value : Operand) → column.OperandOf value (text_of_operand value)
 operand_written operand.NodeId = refl
 operand_written operand.ExternalId = refl
 operand_written operand.NodeGroupId = refl
@@ -81,7 +81,7 @@ lookup_written lookup names = (names, Table ∷ Column ∷ LookupColumn ∷ Exte
     once ExternalId = refl
 
 -- choices
-compared_written : (value : Compared) → IsCompared value → ValueOf value (text_of_compared value)
+compared_written : (value : Compared) → IsCompared value → ComparedOf value (text_of_compared value)
 compared_written (Routed name) good = joined _ _ (codes ":") name refl (joined _ _ [] name refl (refl, good))
 compared_written (Text text) good = refl
 
@@ -116,7 +116,7 @@ choice_written choice condition conditions e is =
     (joined _ _ (codes " ") _ (refl, refl) (joined _ _ (text_of_conditions choice.conditions) _ says (joined _ _ [] _ refl (joined _ _ (codes ")") [] refl refl)))))))))))))))))))))))
 
 -- the names of a choice
-named_value : (value : Compared) (text : List ℕ) → ValueOf value text → IsCompared value
+named_value : (value : Compared) (text : List ℕ) → ComparedOf value text → IsCompared value
 named_value (Routed name) text (a, t, e, colon, (b, rest, f, spaces, (same, good))) = good
 named_value (Text content) text is = tt
 

@@ -3,9 +3,9 @@ use Rattle.std.proofs.Common.{◌≡◌, ◌↔◌, ℕ, List, Result, Ok, Err, 
 use Rattle.sds_types.specs.declared.column_test.ColumnTest.{ColumnTest}
 use Rattle.sds_types.specs.declared.lookup.Lookup.{Lookup}
 use Rattle.sds_types.specs.declared.subselect.Subselect.{Subselect}
-use Rattle.sds_expressions.specs.declared.column_router.Reading.{Reading as ColumnReading}
-use Rattle.sds_expressions.specs.declared.lookup_router.Reading.{Reading as LookupReading}
-use Rattle.sds_expressions.specs.declared.subselect_router.Reading.{Reading as ChoiceReading}
+use Rattle.sds_expressions.specs.declared.column_router.ColumnReading.{ColumnReading}
+use Rattle.sds_expressions.specs.declared.lookup_router.LookupReading.{LookupReading}
+use Rattle.sds_expressions.specs.declared.subselect_router.SubselectReading.{SubselectReading as ChoiceReading}
 use Rattle.sds_expressions.specs.Automaton.{run}
 use Rattle.sds_expressions.specs.BadPlaces.{ReadsAs}
 use Rattle.sds_expressions.specs.ColumnForm.{IsColumnForm}

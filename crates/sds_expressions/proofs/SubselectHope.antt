@@ -7,9 +7,9 @@ use Rattle.std.proofs.Math.Utf8.{scalar}
 use Rattle.std.specs.Char.{to_ascii_lowercase}
 use Rattle.sds_types.specs.declared.subselect.Compared.TheVariants.{Routed, Text}
 use Rattle.sds_types.specs.declared.subselect.Subselect.{Subselect}
-use Rattle.sds_expressions.specs.declared.subselect_router.Reading.{Reading}
-use Rattle.sds_expressions.specs.declared.subselect_router.Slot.{Slot}
-use Rattle.sds_expressions.specs.declared.subselect_router.Slot.TheVariants as slot
+use Rattle.sds_expressions.specs.declared.subselect_router.SubselectReading.{SubselectReading}
+use Rattle.sds_expressions.specs.declared.subselect_router.SubselectSlot.{SubselectSlot}
+use Rattle.sds_expressions.specs.declared.subselect_router.SubselectSlot.TheVariants as slot
 use Rattle.sds_expressions.proofs.Readings.{IsBadPlace}
 use Rattle.sds_value.specs.Names.{is_name_character}
 use Rattle.sds_expressions.specs.SubselectRouter as choice
@@ -17,17 +17,17 @@ use Rattle.sds_expressions.specs.SubselectForm.{is_spacing}
 use Rattle.sds_expressions.proofs.ColumnHope.{front_is, rest_is}
 use Rattle.sds_expressions.proofs.Readings as readings
 
-abbrev CanEnd : Reading → Type 0
+abbrev CanEnd : SubselectReading → Type 0
 CanEnd reading = readings.CanEnd choice.step choice.finish reading
 
-done : (reading : Reading) (value : Subselect) → choice.finish reading ≡ Some value → CanEnd reading
+done : (reading : SubselectReading) (value : Subselect) → choice.finish reading ≡ Some value → CanEnd reading
 done reading value is = readings.done choice.step choice.finish reading value is
 
-one_more : (reading next : Reading) (c : ℕ) → choice.step reading c ≡ Some next → scalar c ≡ true → CanEnd next → CanEnd reading
+one_more : (reading next : SubselectReading) (c : ℕ) → choice.step reading c ≡ Some next → scalar c ≡ true → CanEnd next → CanEnd reading
 one_more reading next c is good can = readings.one_more choice.step choice.finish reading next c is good can
 
 -- at a keyword stands a prefix of one, and at a sign stands nothing
-abbrev HoldsAt : Slot → List ℕ → Type 0
+abbrev HoldsAt : SubselectSlot → List ℕ → Type 0
 HoldsAt slot.Prefix word = choice.begins_keyword slot.Prefix word ≡ true
 HoldsAt slot.Dot word = word ≡ []
 HoldsAt slot.Which word = choice.begins_keyword slot.Which word ≡ true
@@ -47,16 +47,16 @@ HoldsAt slot.Quote word = Unit {0}
 HoldsAt slot.Next word = choice.begins_keyword slot.Next word ≡ true
 HoldsAt slot.Close word = word ≡ []
 
-abbrev Holds : Reading → Type 0
+abbrev Holds : SubselectReading → Type 0
 Holds reading = HoldsAt reading.slot reading.word
 
-kept : (reading next : Reading) → Holds reading → Some reading ≡ Some next → Holds next
+kept : (reading next : SubselectReading) → Holds reading → Some reading ≡ Some next → Holds next
 kept reading next holds e = let same : reading ≡ next = cc in subst Holds same holds
 
-gone : (next : Reading) → None ≡ Some next → Holds next
+gone : (next : SubselectReading) → None ≡ Some next → Holds next
 gone next e = absurd (cc)
 
-branch : (t : Bool) (x y : Option Reading) (next : Reading) → (t ≡ true → x ≡ Some next → Holds next) → (y ≡ Some next → Holds next) → (if t then x else y) ≡ Some next → Holds next
+branch : (t : Bool) (x y : Option SubselectReading) (next : SubselectReading) → (t ≡ true → x ≡ Some next → Holds next) → (y ≡ Some next → Holds next) → (if t then x else y) ≡ Some next → Holds next
 branch true x y next f g e = f refl e
 branch false x y next f g e = g e
 
@@ -64,7 +64,7 @@ no_true : false ≡ true → ⊥
 no_true e = cc
 
 -- where no word has begun, in a keyword, and in a name
-fresh_holds : (at : Slot) → HoldsAt at []
+fresh_holds : (at : SubselectSlot) → HoldsAt at []
 fresh_holds slot.Prefix = refl
 fresh_holds slot.Dot = refl
 fresh_holds slot.Which = refl
@@ -84,7 +84,7 @@ fresh_holds slot.Quote = tt
 fresh_holds slot.Next = refl
 fresh_holds slot.Close = refl
 
-keyword_holds : (at : Slot) (word : List ℕ) → choice.begins_keyword at word ≡ true → HoldsAt at word
+keyword_holds : (at : SubselectSlot) (word : List ℕ) → choice.begins_keyword at word ≡ true → HoldsAt at word
 keyword_holds slot.Prefix word e = e
 keyword_holds slot.Dot word e = absurd (no_true e)
 keyword_holds slot.Which word e = e
@@ -104,7 +104,7 @@ keyword_holds slot.Quote word e = tt
 keyword_holds slot.Next word e = e
 keyword_holds slot.Close word e = absurd (no_true e)
 
-name_holds : (at : Slot) (word : List ℕ) → choice.takes_name at ≡ true → HoldsAt at word
+name_holds : (at : SubselectSlot) (word : List ℕ) → choice.takes_name at ≡ true → HoldsAt at word
 name_holds slot.Prefix word e = absurd (no_true e)
 name_holds slot.Dot word e = absurd (no_true e)
 name_holds slot.Which word e = absurd (no_true e)
@@ -124,7 +124,7 @@ name_holds slot.Quote word e = tt
 name_holds slot.Next word e = absurd (no_true e)
 name_holds slot.Close word e = absurd (no_true e)
 
-finished_word : (at : Slot) (reading : Reading) (word : List ℕ) → (choice.takes_name at ≡ true) ⊎ (choice.is_keyword at word ≡ true) → (choice.finished_at at reading).word ≡ []
+finished_word : (at : SubselectSlot) (reading : SubselectReading) (word : List ℕ) → (choice.takes_name at ≡ true) ⊎ (choice.is_keyword at word ≡ true) → (choice.finished_at at reading).word ≡ []
 finished_word slot.Prefix reading word e = refl
 finished_word slot.Dot reading word (inl e) = absurd (no_true e)
 finished_word slot.Dot reading word (inr e) = absurd (no_true e)
@@ -151,26 +151,26 @@ finished_word slot.Next reading word e = refl
 finished_word slot.Close reading word (inl e) = absurd (no_true e)
 finished_word slot.Close reading word (inr e) = absurd (no_true e)
 
-empty_holds : (reading : Reading) → reading.word ≡ [] → Holds reading
+empty_holds : (reading : SubselectReading) → reading.word ≡ [] → Holds reading
 empty_holds reading empty = subst (HoldsAt reading.slot) (sym empty) (fresh_holds reading.slot)
 
-before_keyword : (reading next : Reading) (c : ℕ) → reading.word ≡ [] → choice.before_keyword reading c ≡ Some next → Holds next
+before_keyword : (reading next : SubselectReading) (c : ℕ) → reading.word ≡ [] → choice.before_keyword reading c ≡ Some next → Holds next
 before_keyword reading next c empty e =
     branch (is_spacing c) _ _ next (λ _ f. kept (record reading { spaced = true }) next (empty_holds reading empty) f)
     (λ f. branch (reading.spaced && choice.begins_keyword reading.slot (to_ascii_lowercase c ∷ [])) _ _ next
     (λ test g. kept (record reading { word = to_ascii_lowercase c ∷ [] }) next (keyword_holds reading.slot (to_ascii_lowercase c ∷ []) (and_parts reading.spaced (choice.begins_keyword reading.slot (to_ascii_lowercase c ∷ [])) test).1) g) (gone next) f) e
 
-before_name : (reading next : Reading) (c : ℕ) → reading.word ≡ [] → choice.takes_name reading.slot ≡ true → choice.before_name reading c ≡ Some next → Holds next
+before_name : (reading next : SubselectReading) (c : ℕ) → reading.word ≡ [] → choice.takes_name reading.slot ≡ true → choice.before_name reading c ≡ Some next → Holds next
 before_name reading next c empty takes e =
     branch (is_spacing c) _ _ next (λ _ f. kept (record reading { spaced = true }) next (empty_holds reading empty) f)
     (λ f. branch (reading.spaced && is_name_character c) _ _ next (λ _ g. kept (record reading { word = c ∷ [] }) next (name_holds reading.slot (c ∷ []) takes) g) (gone next) f) e
 
-sign : (mark : ℕ) (to : Slot) (reading next : Reading) (c : ℕ) → reading.word ≡ [] → choice.sign mark to reading c ≡ Some next → Holds next
+sign : (mark : ℕ) (to : SubselectSlot) (reading next : SubselectReading) (c : ℕ) → reading.word ≡ [] → choice.sign mark to reading c ≡ Some next → Holds next
 sign mark to reading next c empty e =
     branch (is_spacing c) _ _ next (λ _ f. kept reading next (empty_holds reading empty) f)
     (λ f. branch (c == mark) _ _ next (λ _ g. kept (choice.moved reading to true) next (fresh_holds to) g) (gone next) f) e
 
-fresh_kept : (at : Slot) (reading next : Reading) (c : ℕ) → reading.slot ≡ at → reading.word ≡ [] → choice.fresh_at at reading c ≡ Some next → Holds next
+fresh_kept : (at : SubselectSlot) (reading next : SubselectReading) (c : ℕ) → reading.slot ≡ at → reading.word ≡ [] → choice.fresh_at at reading c ≡ Some next → Holds next
 fresh_kept slot.Prefix reading next c is empty e = before_keyword reading next c empty e
 fresh_kept slot.Dot reading next c is empty e = sign 46 slot.Which reading next c empty e
 fresh_kept slot.Which reading next c is empty e = before_keyword reading next c empty e
@@ -193,7 +193,7 @@ fresh_kept slot.Quote reading next c is empty e = before_keyword reading next c 
 fresh_kept slot.Next reading next c is empty e = branch (c == 41) _ _ next (λ _ f. kept (choice.moved reading slot.Close true) next refl f) (λ f. before_keyword reading next c empty f) e
 fresh_kept slot.Close reading next c is empty e = branch (is_spacing c) _ _ next (λ _ f. kept reading next (empty_holds reading empty) f) (gone next) e
 
-outside_kept : (word : List ℕ) (reading next : Reading) (c : ℕ) → reading.word ≡ word → choice.outside word reading c ≡ Some next → Holds next
+outside_kept : (word : List ℕ) (reading next : SubselectReading) (c : ℕ) → reading.word ≡ word → choice.outside word reading c ≡ Some next → Holds next
 outside_kept [] reading next c is e = fresh_kept reading.slot reading next c refl is e
 outside_kept (w ∷ ws) reading next c is e = at (choice.takes_name reading.slot) refl e
   where
@@ -212,10 +212,10 @@ outside_kept (w ∷ ws) reading next c is e = at (choice.takes_name reading.slot
         (λ test g. kept (record reading { word = reading.word ++ to_ascii_lowercase c ∷ [] }) next (keyword_holds reading.slot (reading.word ++ to_ascii_lowercase c ∷ []) test) g)
         (λ g. branch (choice.is_keyword reading.slot reading.word) _ _ next (λ test h. behind (inr test) h) (gone next) g) f
 
-quoted_holds : (reading : Reading) (word : List ℕ) → reading.slot ≡ slot.Quoted → HoldsAt reading.slot word
-quoted_holds reading word is = subst (λ (at : Slot). HoldsAt at word) (sym is) tt
+quoted_holds : (reading : SubselectReading) (word : List ℕ) → reading.slot ≡ slot.Quoted → HoldsAt reading.slot word
+quoted_holds reading word is = subst (λ (at : SubselectSlot). HoldsAt at word) (sym is) tt
 
-step_kept : (at : Slot) (reading next : Reading) (c : ℕ) → reading.slot ≡ at → choice.step_at at reading c ≡ Some next → Holds next
+step_kept : (at : SubselectSlot) (reading next : SubselectReading) (c : ℕ) → reading.slot ≡ at → choice.step_at at reading c ≡ Some next → Holds next
 step_kept slot.Quoted reading next c is e =
     branch (c == 39) _ _ next (λ _ f. kept (record reading { slot = slot.Quote }) next tt f) (λ f. kept (record reading { word = reading.word ++ c ∷ [] }) next (quoted_holds reading (reading.word ++ c ∷ []) is) f) e
 step_kept slot.Quote reading next c is e =
@@ -238,38 +238,38 @@ step_kept slot.Routed reading next c is e = outside_kept reading.word reading ne
 step_kept slot.Next reading next c is e = outside_kept reading.word reading next c refl e
 step_kept slot.Close reading next c is e = outside_kept reading.word reading next c refl e
 
-keeps : (reading next : Reading) (c : ℕ) → Holds reading → choice.step reading c ≡ Some next → Holds next
+keeps : (reading next : SubselectReading) (c : ℕ) → Holds reading → choice.step reading c ≡ Some next → Holds next
 keeps reading next c holds e = step_kept reading.slot reading next c refl e
 
 -- from the end to the value of a condition
-can_close : (reading : Reading) → reading.slot ≡ slot.Close → CanEnd reading
-can_close reading is = done reading (record { by = reading.by; column = reading.column; table = reading.table; conditions = reading.conditions }) (ap (λ (at : Slot). choice.choice_at at reading) is)
+can_close : (reading : SubselectReading) → reading.slot ≡ slot.Close → CanEnd reading
+can_close reading is = done reading (record { by = reading.by; column = reading.column; table = reading.table; conditions = reading.conditions }) (ap (λ (at : SubselectSlot). choice.choice_at at reading) is)
 
-can_next : (reading : Reading) → reading.slot ≡ slot.Next → reading.word ≡ [] → CanEnd reading
+can_next : (reading : SubselectReading) → reading.slot ≡ slot.Next → reading.word ≡ [] → CanEnd reading
 can_next reading is empty = let next = choice.moved reading slot.Close true in one_more reading next 41 (rw (is, empty) refl) refl (can_close next refl)
 
-can_quote : (reading : Reading) → reading.slot ≡ slot.Quote → CanEnd reading
+can_quote : (reading : SubselectReading) → reading.slot ≡ slot.Quote → CanEnd reading
 can_quote reading is = let next = choice.moved (choice.with_condition reading (Text reading.word) true) slot.Close true in one_more reading next 41 (rw is refl) refl (can_close next refl)
 
-can_quoted : (reading : Reading) → reading.slot ≡ slot.Quoted → CanEnd reading
+can_quoted : (reading : SubselectReading) → reading.slot ≡ slot.Quoted → CanEnd reading
 can_quoted reading is = let next = record reading { slot = slot.Quote } in one_more reading next 39 (rw is refl) refl (can_quote next refl)
 
-can_value : (reading : Reading) → reading.slot ≡ slot.Value → reading.word ≡ [] → CanEnd reading
+can_value : (reading : SubselectReading) → reading.slot ≡ slot.Value → reading.word ≡ [] → CanEnd reading
 can_value reading is empty = let next = choice.moved reading slot.Quoted true in one_more reading next 39 (rw (is, empty) refl) refl (can_quoted next refl)
 
-can_equals : (reading : Reading) → reading.slot ≡ slot.Equals → reading.word ≡ [] → CanEnd reading
+can_equals : (reading : SubselectReading) → reading.slot ≡ slot.Equals → reading.word ≡ [] → CanEnd reading
 can_equals reading is empty = let next = choice.moved reading slot.Value true in one_more reading next 61 (rw (is, empty) refl) refl (can_value next refl refl)
 
 -- a name that has begun, and one that has not
-abbrev Named : Slot → Type 0
-Named at = (reading : Reading) (w : ℕ) (ws : List ℕ) → reading.slot ≡ at → reading.word ≡ w ∷ ws → CanEnd reading
+abbrev Named : SubselectSlot → Type 0
+Named at = (reading : SubselectReading) (w : ℕ) (ws : List ℕ) → reading.slot ≡ at → reading.word ≡ w ∷ ws → CanEnd reading
 
-can_name : (at : Slot) → ((reading : Reading) (c : ℕ) → reading.slot ≡ at → reading.word ≡ [] → choice.step reading c ≡ choice.before_name reading c) → Named at
-    → (word : List ℕ) (reading : Reading) → reading.word ≡ word → reading.slot ≡ at → CanEnd reading
+can_name : (at : SubselectSlot) → ((reading : SubselectReading) (c : ℕ) → reading.slot ≡ at → reading.word ≡ [] → choice.step reading c ≡ choice.before_name reading c) → Named at
+    → (word : List ℕ) (reading : SubselectReading) → reading.word ≡ word → reading.slot ≡ at → CanEnd reading
 can_name at fresh named (w ∷ ws) reading e is = named reading w ws is e
 can_name at fresh named [] reading e is = spaced reading.spaced refl
   where
-    begins : (from : Reading) → from.spaced ≡ true → from.slot ≡ at → from.word ≡ [] → CanEnd from
+    begins : (from : SubselectReading) → from.spaced ≡ true → from.slot ≡ at → from.word ≡ [] → CanEnd from
     begins from good at_name empty = let next = record from { word = 97 ∷ [] } in one_more from next 97 (fresh from 97 at_name empty ∙ rw good refl) refl (named next 97 [] at_name refl)
 
     spaced : (t : Bool) → reading.spaced ≡ t → CanEnd reading
@@ -279,13 +279,13 @@ can_name at fresh named [] reading e is = spaced reading.spaced refl
 named_routed : Named slot.Routed
 named_routed reading w ws is word = let next = choice.moved (choice.with_condition reading (Routed reading.word) false) slot.Close true in one_more reading next 41 (rw (is, word) refl) refl (can_close next refl)
 
-can_routed : (reading : Reading) → reading.slot ≡ slot.Routed → CanEnd reading
+can_routed : (reading : SubselectReading) → reading.slot ≡ slot.Routed → CanEnd reading
 can_routed reading is = can_name slot.Routed (λ from c at_name empty. rw (at_name, empty) refl) named_routed reading.word reading refl is
 
 named_tested : Named slot.Tested
 named_tested reading w ws is word = let next = choice.moved (record reading { tested = reading.word }) slot.Value true in one_more reading next 61 (rw (is, word) refl) refl (can_value next refl refl)
 
-can_tested : (reading : Reading) → reading.slot ≡ slot.Tested → CanEnd reading
+can_tested : (reading : SubselectReading) → reading.slot ≡ slot.Tested → CanEnd reading
 can_tested reading is = can_name slot.Tested (λ from c at_name empty. rw (at_name, empty) refl) named_tested reading.word reading refl is
 
 -- the keywords of a slot
@@ -304,23 +304,23 @@ good_rest (c ∷ cs) ds e =
     let parts = and_parts (scalar c) (to_ascii_lowercase c == c && good (cs ++ ds)) e in
     good_rest cs ds (and_parts (to_ascii_lowercase c == c) (good (cs ++ ds)) parts.1).1
 
-record Keyword (at : Slot) (word : List ℕ) : Type 0 where
-  outside : (reading : Reading) (c : ℕ) → reading.slot ≡ at → choice.step reading c ≡ choice.outside reading.word reading c
+record Keyword (at : SubselectSlot) (word : List ℕ) : Type 0 where
+  outside : (reading : SubselectReading) (c : ℕ) → reading.slot ≡ at → choice.step reading c ≡ choice.outside reading.word reading c
   no_name : choice.takes_name at ≡ false
   fronts : (text rest : List ℕ) → word ≡ text ++ rest → choice.begins_keyword at text ≡ true
   letters : good word ≡ true
 
-abbrev Whole : Slot → List ℕ → Type 0
-Whole at word = (reading : Reading) → reading.slot ≡ at → reading.word ≡ word → CanEnd reading
+abbrev Whole : SubselectSlot → List ℕ → Type 0
+Whole at word = (reading : SubselectReading) → reading.slot ≡ at → reading.word ≡ word → CanEnd reading
 
-can_rest : (at : Slot) (word : List ℕ) → Keyword at word → Whole at word
-    → (rest : List ℕ) (reading : Reading) (w : ℕ) (ws : List ℕ) → reading.slot ≡ at → reading.word ≡ w ∷ ws → word ≡ reading.word ++ rest → CanEnd reading
+can_rest : (at : SubselectSlot) (word : List ℕ) → Keyword at word → Whole at word
+    → (rest : List ℕ) (reading : SubselectReading) (w : ℕ) (ws : List ℕ) → reading.slot ≡ at → reading.word ≡ w ∷ ws → word ≡ reading.word ++ rest → CanEnd reading
 can_rest at word keyword whole [] reading w ws is begun e = whole reading is (sym (e ∙ append-nil reading.word))
 can_rest at word keyword whole (c ∷ rest) reading w ws is begun e =
     let longer : word ≡ (reading.word ++ c ∷ []) ++ rest = e ∙ sym (append_assoc reading.word (c ∷ []) rest) in
     let letter = good_parts c rest (good_rest reading.word (c ∷ rest) (ap good (sym e) ∙ keyword.letters)) in
     let no_name : choice.takes_name reading.slot ≡ false = ap choice.takes_name is ∙ keyword.no_name in
-    let front : choice.begins_keyword reading.slot (reading.word ++ c ∷ []) ≡ true = ap (λ (s : Slot). choice.begins_keyword s (reading.word ++ c ∷ [])) is ∙ keyword.fronts (reading.word ++ c ∷ []) rest longer in
+    let front : choice.begins_keyword reading.slot (reading.word ++ c ∷ []) ≡ true = ap (λ (s : SubselectSlot). choice.begins_keyword s (reading.word ++ c ∷ [])) is ∙ keyword.fronts (reading.word ++ c ∷ []) rest longer in
     let inside : choice.in_keyword reading c ≡ Some (record reading { word = reading.word ++ c ∷ [] }) = rw (letter.1, front) refl in
     let outside : choice.outside (w ∷ ws) reading c ≡ choice.in_keyword reading c = rw no_name refl in
     let next = record reading { word = reading.word ++ c ∷ [] } in
@@ -328,15 +328,15 @@ can_rest at word keyword whole (c ∷ rest) reading w ws is begun e =
     one_more reading next c (keyword.outside reading c is ∙ (ap (λ (x : List ℕ). choice.outside x reading c) begun ∙ (outside ∙ inside))) letter.0
     (can_rest at word keyword whole rest next w (ws ++ c ∷ []) is begun_next longer)
 
-can_begin : (at : Slot) (c : ℕ) (rest : List ℕ) → Keyword at (c ∷ rest) → Whole at (c ∷ rest) → is_spacing c ≡ false
-    → ((reading : Reading) (x : ℕ) → reading.slot ≡ at → reading.word ≡ [] → choice.step reading x ≡ choice.before_keyword reading x)
-    → (reading : Reading) → reading.slot ≡ at → reading.word ≡ [] → CanEnd reading
+can_begin : (at : SubselectSlot) (c : ℕ) (rest : List ℕ) → Keyword at (c ∷ rest) → Whole at (c ∷ rest) → is_spacing c ≡ false
+    → ((reading : SubselectReading) (x : ℕ) → reading.slot ≡ at → reading.word ≡ [] → choice.step reading x ≡ choice.before_keyword reading x)
+    → (reading : SubselectReading) → reading.slot ≡ at → reading.word ≡ [] → CanEnd reading
 can_begin at c rest keyword whole letter fresh reading is empty = spaced reading.spaced refl
   where
-    begins : (from : Reading) → from.spaced ≡ true → from.slot ≡ at → from.word ≡ [] → CanEnd from
+    begins : (from : SubselectReading) → from.spaced ≡ true → from.slot ≡ at → from.word ≡ [] → CanEnd from
     begins from good_place at_word nothing =
         let parts = good_parts c rest keyword.letters in
-        let front : choice.begins_keyword from.slot (c ∷ []) ≡ true = ap (λ (s : Slot). choice.begins_keyword s (c ∷ [])) at_word ∙ keyword.fronts (c ∷ []) rest refl in
+        let front : choice.begins_keyword from.slot (c ∷ []) ≡ true = ap (λ (s : SubselectSlot). choice.begins_keyword s (c ∷ [])) at_word ∙ keyword.fronts (c ∷ []) rest refl in
         let next = record from { word = c ∷ [] } in
         one_more from next c (fresh from c at_word nothing ∙ rw (letter, parts.1, good_place, front) refl) parts.0 (can_rest at (c ∷ rest) keyword whole rest next c [] at_word refl refl)
 
@@ -350,7 +350,7 @@ keyword_next = record { outside = λ reading c is. rw is refl; no_name = refl; f
 whole_next : Whole slot.Next (codes "and")
 whole_next reading is word = let next = choice.moved reading slot.Tested true in one_more reading next 32 (rw (is, word) refl) refl (can_tested next refl)
 
-can_next_word : (reading : Reading) → reading.slot ≡ slot.Next → choice.begins_keyword slot.Next reading.word ≡ true → CanEnd reading
+can_next_word : (reading : SubselectReading) → reading.slot ≡ slot.Next → choice.begins_keyword slot.Next reading.word ≡ true → CanEnd reading
 can_next_word reading is front = at reading.word refl
   where
     at : (word : List ℕ) → reading.word ≡ word → CanEnd reading
@@ -363,7 +363,7 @@ keyword_where = record { outside = λ reading c is. rw is refl; no_name = refl; 
 whole_where : Whole slot.Where (codes "where")
 whole_where reading is word = let next = choice.moved reading slot.Tested true in one_more reading next 32 (rw (is, word) refl) refl (can_tested next refl)
 
-can_where_word : (reading : Reading) → reading.slot ≡ slot.Where → choice.begins_keyword slot.Where reading.word ≡ true → CanEnd reading
+can_where_word : (reading : SubselectReading) → reading.slot ≡ slot.Where → choice.begins_keyword slot.Where reading.word ≡ true → CanEnd reading
 can_where_word reading is front = at reading.word refl
   where
     at : (word : List ℕ) → reading.word ≡ word → CanEnd reading
@@ -373,7 +373,7 @@ can_where_word reading is front = at reading.word refl
 named_table : Named slot.Table
 named_table reading w ws is word = let next = choice.moved (record reading { table = reading.word }) slot.Where true in one_more reading next 32 (rw (is, word) refl) refl (can_where_word next refl refl)
 
-can_table : (reading : Reading) → reading.slot ≡ slot.Table → CanEnd reading
+can_table : (reading : SubselectReading) → reading.slot ≡ slot.Table → CanEnd reading
 can_table reading is = can_name slot.Table (λ from c at_name empty. rw (at_name, empty) refl) named_table reading.word reading refl is
 
 keyword_from : Keyword slot.From (codes "from")
@@ -382,7 +382,7 @@ keyword_from = record { outside = λ reading c is. rw is refl; no_name = refl; f
 whole_from : Whole slot.From (codes "from")
 whole_from reading is word = let next = choice.moved reading slot.Table true in one_more reading next 32 (rw (is, word) refl) refl (can_table next refl)
 
-can_from_word : (reading : Reading) → reading.slot ≡ slot.From → choice.begins_keyword slot.From reading.word ≡ true → CanEnd reading
+can_from_word : (reading : SubselectReading) → reading.slot ≡ slot.From → choice.begins_keyword slot.From reading.word ≡ true → CanEnd reading
 can_from_word reading is front = at reading.word refl
   where
     at : (word : List ℕ) → reading.word ≡ word → CanEnd reading
@@ -392,7 +392,7 @@ can_from_word reading is front = at reading.word refl
 named_column : Named slot.Column
 named_column reading w ws is word = let next = choice.moved (record reading { column = reading.word }) slot.From true in one_more reading next 32 (rw (is, word) refl) refl (can_from_word next refl refl)
 
-can_column : (reading : Reading) → reading.slot ≡ slot.Column → CanEnd reading
+can_column : (reading : SubselectReading) → reading.slot ≡ slot.Column → CanEnd reading
 can_column reading is = can_name slot.Column (λ from c at_name empty. rw (at_name, empty) refl) named_column reading.word reading refl is
 
 keyword_select : Keyword slot.Select (codes "select")
@@ -401,14 +401,14 @@ keyword_select = record { outside = λ reading c is. rw is refl; no_name = refl;
 whole_select : Whole slot.Select (codes "select")
 whole_select reading is word = let next = choice.moved reading slot.Column true in one_more reading next 32 (rw (is, word) refl) refl (can_column next refl)
 
-can_select_word : (reading : Reading) → reading.slot ≡ slot.Select → choice.begins_keyword slot.Select reading.word ≡ true → CanEnd reading
+can_select_word : (reading : SubselectReading) → reading.slot ≡ slot.Select → choice.begins_keyword slot.Select reading.word ≡ true → CanEnd reading
 can_select_word reading is front = at reading.word refl
   where
     at : (word : List ℕ) → reading.word ≡ word → CanEnd reading
     at [] e = can_begin slot.Select 115 (drop 1 (codes "select")) keyword_select whole_select refl (λ from x at_word nothing. rw (at_word, nothing) refl) reading is e
     at (w ∷ ws) e = can_rest slot.Select (codes "select") keyword_select whole_select (drop (length reading.word) (codes "select")) reading w ws is e (rest_is (codes "select") reading.word front)
 
-can_open : (reading : Reading) → reading.slot ≡ slot.Open → reading.word ≡ [] → CanEnd reading
+can_open : (reading : SubselectReading) → reading.slot ≡ slot.Open → reading.word ≡ [] → CanEnd reading
 can_open reading is empty = let next = choice.moved reading slot.Select true in one_more reading next 40 (rw (is, empty) refl) refl (can_select_word next refl refl)
 
 keyword_in : Keyword slot.In (codes "in")
@@ -417,7 +417,7 @@ keyword_in = record { outside = λ reading c is. rw is refl; no_name = refl; fro
 whole_in : Whole slot.In (codes "in")
 whole_in reading is word = let next = choice.moved reading slot.Select true in one_more reading next 40 (rw (is, word) refl) refl (can_select_word next refl refl)
 
-can_in_word : (reading : Reading) → reading.slot ≡ slot.In → choice.begins_keyword slot.In reading.word ≡ true → CanEnd reading
+can_in_word : (reading : SubselectReading) → reading.slot ≡ slot.In → choice.begins_keyword slot.In reading.word ≡ true → CanEnd reading
 can_in_word reading is front = at reading.word refl
   where
     at : (word : List ℕ) → reading.word ≡ word → CanEnd reading
@@ -444,7 +444,7 @@ whole_external reading is word = let next = choice.moved (record reading { by = 
 whole_node : Whole slot.Which (codes "node_id")
 whole_node reading is word = let next = choice.moved (record reading { by = choice.node_column reading.word }) slot.In true in one_more reading next 32 (rw (is, word) refl) refl (can_in_word next refl refl)
 
-can_which_word : (reading : Reading) → reading.slot ≡ slot.Which → choice.begins_keyword slot.Which reading.word ≡ true → CanEnd reading
+can_which_word : (reading : SubselectReading) → reading.slot ≡ slot.Which → choice.begins_keyword slot.Which reading.word ≡ true → CanEnd reading
 can_which_word reading is front = at reading.word refl (either (choice.is_prefix (codes "external_id") reading.word) (choice.is_prefix (codes "node_id") reading.word) front)
   where
     at : (word : List ℕ) → reading.word ≡ word → (choice.is_prefix (codes "external_id") reading.word ≡ true) ⊎ (choice.is_prefix (codes "node_id") reading.word ≡ true) → CanEnd reading
@@ -452,7 +452,7 @@ can_which_word reading is front = at reading.word refl (either (choice.is_prefix
     at (w ∷ ws) e (inl f) = can_rest slot.Which (codes "external_id") keyword_external whole_external (drop (length reading.word) (codes "external_id")) reading w ws is e (rest_is (codes "external_id") reading.word f)
     at (w ∷ ws) e (inr f) = can_rest slot.Which (codes "node_id") keyword_node whole_node (drop (length reading.word) (codes "node_id")) reading w ws is e (rest_is (codes "node_id") reading.word f)
 
-can_dot : (reading : Reading) → reading.slot ≡ slot.Dot → reading.word ≡ [] → CanEnd reading
+can_dot : (reading : SubselectReading) → reading.slot ≡ slot.Dot → reading.word ≡ [] → CanEnd reading
 can_dot reading is empty = let next = choice.moved reading slot.Which true in one_more reading next 46 (rw (is, empty) refl) refl (can_which_word next refl refl)
 
 keyword_prefix : Keyword slot.Prefix (codes "c")
@@ -461,14 +461,14 @@ keyword_prefix = record { outside = λ reading c is. rw is refl; no_name = refl;
 whole_prefix : Whole slot.Prefix (codes "c")
 whole_prefix reading is word = let next = choice.moved reading slot.Which true in one_more reading next 46 (rw (is, word) refl) refl (can_which_word next refl refl)
 
-can_prefix_word : (reading : Reading) → reading.slot ≡ slot.Prefix → choice.begins_keyword slot.Prefix reading.word ≡ true → CanEnd reading
+can_prefix_word : (reading : SubselectReading) → reading.slot ≡ slot.Prefix → choice.begins_keyword slot.Prefix reading.word ≡ true → CanEnd reading
 can_prefix_word reading is front = at reading.word refl
   where
     at : (word : List ℕ) → reading.word ≡ word → CanEnd reading
     at [] e = can_begin slot.Prefix 99 (drop 1 (codes "c")) keyword_prefix whole_prefix refl (λ from x at_word nothing. rw (at_word, nothing) refl) reading is e
     at (w ∷ ws) e = can_rest slot.Prefix (codes "c") keyword_prefix whole_prefix (drop (length reading.word) (codes "c")) reading w ws is e (rest_is (codes "c") reading.word front)
 
-can_at : (at : Slot) (reading : Reading) → reading.slot ≡ at → HoldsAt at reading.word → CanEnd reading
+can_at : (at : SubselectSlot) (reading : SubselectReading) → reading.slot ≡ at → HoldsAt at reading.word → CanEnd reading
 can_at slot.Prefix reading is holds = can_prefix_word reading is holds
 can_at slot.Dot reading is holds = can_dot reading is holds
 can_at slot.Which reading is holds = can_which_word reading is holds
@@ -488,7 +488,7 @@ can_at slot.Quote reading is holds = can_quote reading is
 can_at slot.Next reading is holds = can_next_word reading is holds
 can_at slot.Close reading is holds = can_close reading is
 
-can : (reading : Reading) → Holds reading → CanEnd reading
+can : (reading : SubselectReading) → Holds reading → CanEnd reading
 can reading holds = can_at reading.slot reading refl holds
 
 -- the first bad place

@@ -9,30 +9,30 @@ use Rattle.sds_types.specs.declared.subselect.Compared.TheVariants.{Routed, Text
 use Rattle.sds_types.specs.declared.subselect.Condition.{Condition}
 use Rattle.sds_types.specs.declared.subselect.Subselect.{Subselect}
 use Rattle.sds_value.specs.Names.{is_name_text, is_name_character}
-use Rattle.sds_expressions.specs.declared.subselect_router.Reading.{Reading}
-use Rattle.sds_expressions.specs.declared.subselect_router.Slot.{Slot}
-use Rattle.sds_expressions.specs.declared.subselect_router.Slot.TheVariants as slot
+use Rattle.sds_expressions.specs.declared.subselect_router.SubselectReading.{SubselectReading}
+use Rattle.sds_expressions.specs.declared.subselect_router.SubselectSlot.{SubselectSlot}
+use Rattle.sds_expressions.specs.declared.subselect_router.SubselectSlot.TheVariants as slot
 use Rattle.sds_expressions.specs.SubselectRouter as choice
 use Rattle.sds_expressions.specs.Forms.{Form, ◌▸◌, Exactly, Name}
 use Rattle.sds_expressions.specs.ColumnForm.{doubled, quoted}
-use Rattle.sds_expressions.specs.SubselectForm.{is_spacing, Spacing, Gap, Keyword, keyword_of, ValueOf, ConditionOf, SpacingAfter, ConditionsOf, IsSubselectForm}
+use Rattle.sds_expressions.specs.SubselectForm.{is_spacing, Spacing, Gap, Keyword, keyword_of, ComparedOf, ConditionOf, SpacingAfter, ConditionsOf, IsSubselectForm}
 use Rattle.sds_expressions.proofs.Accepting.{value_of, branch, in_front, grouped}
 
-abbrev pub accept : Reading → List ℕ → Option Subselect
+abbrev pub accept : SubselectReading → List ℕ → Option Subselect
 accept reading text = value_of choice.step choice.finish reading text
 
-abbrev pub on : List ℕ → Reading → Option Subselect
+abbrev pub on : List ℕ → SubselectReading → Option Subselect
 on text reading = accept reading text
 
 -- before a word of a slot, and in it
-abbrev pub before : Reading → Slot → Bool → Reading
+abbrev pub before : SubselectReading → SubselectSlot → Bool → SubselectReading
 before reading at spaced = choice.moved reading at spaced
 
-abbrev pub within : Reading → Slot → List ℕ → Reading
+abbrev pub within : SubselectReading → SubselectSlot → List ℕ → SubselectReading
 within reading at word = record reading { word = word; spaced = true; slot = at }
 
 -- the text is accepted from there
-abbrev pub From : Reading → Subselect → Form
+abbrev pub From : SubselectReading → Subselect → Form
 From reading v text = accept reading text ≡ Some v
 
 -- the spacing before a word
@@ -41,17 +41,17 @@ SpacingIf true = Spacing
 SpacingIf false = Gap
 
 -- what holds of each slot of a keyword or a name
-pub record IsWordSlot (at : Slot) : Type 0 where
-  pub outside : (reading : Reading) (c : ℕ) → choice.step_at at reading c ≡ choice.outside reading.word reading c
-  pub unended : (reading : Reading) → choice.choice_at at reading ≡ None
-  pub goes_on : (reading : Reading) (c : ℕ) → choice.step (choice.finished_at at reading) c ≡ choice.fresh (choice.finished_at at reading) c
-  pub unfinished : (reading : Reading) → choice.finish (choice.finished_at at reading) ≡ None
+pub record IsWordSlot (at : SubselectSlot) : Type 0 where
+  pub outside : (reading : SubselectReading) (c : ℕ) → choice.step_at at reading c ≡ choice.outside reading.word reading c
+  pub unended : (reading : SubselectReading) → choice.choice_at at reading ≡ None
+  pub goes_on : (reading : SubselectReading) (c : ℕ) → choice.step (choice.finished_at at reading) c ≡ choice.fresh (choice.finished_at at reading) c
+  pub unfinished : (reading : SubselectReading) → choice.finish (choice.finished_at at reading) ≡ None
 
-abbrev pub Keywords : Slot → Type 0
-Keywords at = (reading : Reading) (c : ℕ) → choice.fresh_at at reading c ≡ choice.before_keyword reading c
+abbrev pub Keywords : SubselectSlot → Type 0
+Keywords at = (reading : SubselectReading) (c : ℕ) → choice.fresh_at at reading c ≡ choice.before_keyword reading c
 
 -- spacing before a keyword
-abbrev Begun : Reading → Slot → Subselect → Form
+abbrev Begun : SubselectReading → SubselectSlot → Subselect → Form
 Begun r at v text = (c : ℕ) × (cs : List ℕ) × (text ≡ c ∷ cs) × (choice.begins_keyword at (to_ascii_lowercase c ∷ []) ≡ true) × From (within r at (to_ascii_lowercase c ∷ [])) v cs
 
 spaced_gap : (Q : Form) (c : ℕ) (cs : List ℕ) → is_spacing c ≡ true → (Spacing ▸ Q) cs → (Gap ▸ Q) (c ∷ cs)
@@ -60,11 +60,11 @@ spaced_gap Q c cs e (a, b, is, all, more) = (c ∷ a, b, ap (λ x. c ∷ x) is, 
     some_length : (c : ℕ) (cs : List ℕ) → nat_le 1 (length (c ∷ cs)) ≡ true
     some_length c cs = grind (arith, nat_tests)
 
-first_step : (at : Slot) (is : IsWordSlot at) (words : Keywords at) (r : Reading) (spaced : Bool) (c : ℕ) (cs : List ℕ) (v : Subselect) → From (before r at spaced) v (c ∷ cs)
+first_step : (at : SubselectSlot) (is : IsWordSlot at) (words : Keywords at) (r : SubselectReading) (spaced : Bool) (c : ℕ) (cs : List ℕ) (v : Subselect) → From (before r at spaced) v (c ∷ cs)
     → option_and_then (on cs) (choice.before_keyword (before r at spaced) c) ≡ Some v
 first_step at is words r spaced c cs v e = sym (ap (option_and_then (on cs)) (is.outside (before r at spaced) c ∙ words (before r at spaced) c)) ∙ e
 
-to_keyword : (at : Slot) (is : IsWordSlot at) (words : Keywords at) (r : Reading) (spaced : Bool) (cs : List ℕ) (v : Subselect) → From (before r at spaced) v cs → (SpacingIf spaced ▸ Begun r at v) cs
+to_keyword : (at : SubselectSlot) (is : IsWordSlot at) (words : Keywords at) (r : SubselectReading) (spaced : Bool) (cs : List ℕ) (v : Subselect) → From (before r at spaced) v cs → (SpacingIf spaced ▸ Begun r at v) cs
 to_keyword at is words r spaced [] v e = let none : None ≡ Some v = sym (is.unended (before r at spaced)) ∙ e in absurd (cc)
 to_keyword at is words r true (c ∷ cs) v e =
     branch (on cs) v (is_spacing c) _ _ (λ t f. in_front is_spacing (Begun r at v) c cs t (to_keyword at is words r true cs v f))
@@ -73,14 +73,14 @@ to_keyword at is words r false (c ∷ cs) v e =
     branch (on cs) v (is_spacing c) _ _ (λ t f. spaced_gap (Begun r at v) c cs t (to_keyword at is words r true cs v f)) (λ t f. absurd (cc)) (first_step at is words r false c cs v e)
 
 -- the rest of a keyword
-record KeywordRead (r : Reading) (at : Slot) (w cs : List ℕ) (v : Subselect) : Type 0 where
+record KeywordRead (r : SubselectReading) (at : SubselectSlot) (w cs : List ℕ) (v : Subselect) : Type 0 where
   word : List ℕ
   rest : List ℕ
   is : cs ≡ word ++ rest
   whole : choice.is_keyword at (w ++ map to_ascii_lowercase word) ≡ true
   more : From (choice.finished_at at (within r at (w ++ map to_ascii_lowercase word))) v rest
 
-keyword_rest : (at : Slot) (is : IsWordSlot at) (no_name : choice.takes_name at ≡ false) (r : Reading) (w : ℕ) (ws cs : List ℕ) (v : Subselect) → From (within r at (w ∷ ws)) v cs → KeywordRead r at (w ∷ ws) cs v
+keyword_rest : (at : SubselectSlot) (is : IsWordSlot at) (no_name : choice.takes_name at ≡ false) (r : SubselectReading) (w : ℕ) (ws cs : List ℕ) (v : Subselect) → From (within r at (w ∷ ws)) v cs → KeywordRead r at (w ∷ ws) cs v
 keyword_rest at is no_name r w ws [] v e = let none : None ≡ Some v = sym (is.unended (within r at (w ∷ ws))) ∙ e in absurd (cc)
 keyword_rest at is no_name r w ws (c ∷ cs) v e =
     branch (on cs) v (choice.begins_keyword at (w ∷ (ws ++ to_ascii_lowercase c ∷ []))) _ _ (λ t f. longer (keyword_rest at is no_name r w (ws ++ to_ascii_lowercase c ∷ []) cs v f))
@@ -109,27 +109,27 @@ keyword_rest at is no_name r w ws (c ∷ cs) v e =
         record { word = []; rest = c ∷ cs; is = refl; whole = subst (λ x. choice.is_keyword at x ≡ true) same u; more = subst (λ x. From (choice.finished_at at (within r at x)) v (c ∷ cs)) same here }
 
 -- a keyword, and what is accepted after it
-abbrev pub AfterKeyword : Reading → Slot → Subselect → Form
+abbrev pub AfterKeyword : SubselectReading → SubselectSlot → Subselect → Form
 AfterKeyword r at v text = (word : List ℕ) × (choice.is_keyword at word ≡ true) × (Keyword word ▸ From (choice.finished_at at (within r at word)) v) text
 
-begun_keyword : (at : Slot) (is : IsWordSlot at) (no_name : choice.takes_name at ≡ false) (r : Reading) (text : List ℕ) (v : Subselect) → Begun r at v text → AfterKeyword r at v text
+begun_keyword : (at : SubselectSlot) (is : IsWordSlot at) (no_name : choice.takes_name at ≡ false) (r : SubselectReading) (text : List ℕ) (v : Subselect) → Begun r at v text → AfterKeyword r at v text
 begun_keyword at is no_name r text v (c, cs, e, begins, f) =
     let q = keyword_rest at is no_name r (to_ascii_lowercase c) [] cs v f in
     (to_ascii_lowercase c ∷ map to_ascii_lowercase q.word, q.whole, (c ∷ q.word, q.rest, e ∙ ap (λ x. c ∷ x) q.is, refl, q.more))
 
-keyword_read : (at : Slot) (is : IsWordSlot at) (no_name : choice.takes_name at ≡ false) (words : Keywords at) (r : Reading) (spaced : Bool) (cs : List ℕ) (v : Subselect) → From (before r at spaced) v cs → (SpacingIf spaced ▸ AfterKeyword r at v) cs
+keyword_read : (at : SubselectSlot) (is : IsWordSlot at) (no_name : choice.takes_name at ≡ false) (words : Keywords at) (r : SubselectReading) (spaced : Bool) (cs : List ℕ) (v : Subselect) → From (before r at spaced) v cs → (SpacingIf spaced ▸ AfterKeyword r at v) cs
 keyword_read at is no_name words r spaced cs v e =
     let q = to_keyword at is words r spaced cs v e in
     (q.0, q.1, q.2, q.3, begun_keyword at is no_name r q.1 v q.4)
 
 -- a name, and what is accepted after it
-abbrev pub Names : Slot → Type 0
-Names at = (reading : Reading) (c : ℕ) → choice.fresh_at at reading c ≡ choice.before_name reading c
+abbrev pub Names : SubselectSlot → Type 0
+Names at = (reading : SubselectReading) (c : ℕ) → choice.fresh_at at reading c ≡ choice.before_name reading c
 
-abbrev pub AfterName : Reading → Slot → Subselect → Form
+abbrev pub AfterName : SubselectReading → SubselectSlot → Subselect → Form
 AfterName r at v text = (name : List ℕ) × (Name name ▸ From (choice.finished_at at (within r at name)) v) text
 
-record NameRead (r : Reading) (at : Slot) (w cs : List ℕ) (v : Subselect) : Type 0 where
+record NameRead (r : SubselectReading) (at : SubselectSlot) (w cs : List ℕ) (v : Subselect) : Type 0 where
   word : List ℕ
   rest : List ℕ
   is : cs ≡ word ++ rest
@@ -140,7 +140,7 @@ record NameRead (r : Reading) (at : Slot) (w cs : List ℕ) (v : Subselect) : Ty
 one_longer : (w : List ℕ) (c : ℕ) → nat_lt (length w) 50 ≡ true → nat_le (length (w ++ c ∷ [])) 50 ≡ true
 one_longer w c e = let l : length (w ++ c ∷ []) ≡ length w + 1 = length-append w (c ∷ []) in grind (arith, nat_tests)
 
-name_rest : (at : Slot) (is : IsWordSlot at) (name : choice.takes_name at ≡ true) (r : Reading) (w : ℕ) (ws cs : List ℕ) (v : Subselect) → nat_le (length (w ∷ ws)) 50 ≡ true → From (within r at (w ∷ ws)) v cs → NameRead r at (w ∷ ws) cs v
+name_rest : (at : SubselectSlot) (is : IsWordSlot at) (name : choice.takes_name at ≡ true) (r : SubselectReading) (w : ℕ) (ws cs : List ℕ) (v : Subselect) → nat_le (length (w ∷ ws)) 50 ≡ true → From (within r at (w ∷ ws)) v cs → NameRead r at (w ∷ ws) cs v
 name_rest at is name r w ws [] v short e = let none : None ≡ Some v = sym (is.unended (within r at (w ∷ ws))) ∙ e in absurd (cc)
 name_rest at is name r w ws (c ∷ cs) v short e =
     branch (on cs) v (is_name_character c) _ _
@@ -176,7 +176,7 @@ name_text c word first all short = rw (some_length, short, first, all) refl
     some_length : nat_le 1 (length (c ∷ word)) ≡ true
     some_length = grind (arith, nat_tests)
 
-name_read : (at : Slot) (is : IsWordSlot at) (name : choice.takes_name at ≡ true) (names : Names at) (r : Reading) (spaced : Bool) (cs : List ℕ) (v : Subselect) → From (before r at spaced) v cs → (SpacingIf spaced ▸ AfterName r at v) cs
+name_read : (at : SubselectSlot) (is : IsWordSlot at) (name : choice.takes_name at ≡ true) (names : Names at) (r : SubselectReading) (spaced : Bool) (cs : List ℕ) (v : Subselect) → From (before r at spaced) v cs → (SpacingIf spaced ▸ AfterName r at v) cs
 name_read at is name names r spaced [] v e = let none : None ≡ Some v = sym (is.unended (before r at spaced)) ∙ e in absurd (cc)
 name_read at is name names r true (c ∷ cs) v e =
     branch (on cs) v (is_spacing c) _ _ (λ t f. in_front is_spacing (AfterName r at v) c cs t (name_read at is name names r true cs v f))
@@ -194,11 +194,11 @@ name_read at is name names r false (c ∷ cs) v e =
     first = sym (ap (option_and_then (on cs)) (is.outside (before r at false) c ∙ names (before r at false) c)) ∙ e
 
 -- a sign, and what is accepted after it
-pub record IsSignSlot (at : Slot) (mark : ℕ) (to : Slot) : Type 0 where
-  pub step : (reading : Reading) (spaced : Bool) (c : ℕ) → choice.step (before reading at spaced) c ≡ choice.sign mark to (before reading at spaced) c
-  pub unended : (reading : Reading) → choice.choice_at at reading ≡ None
+pub record IsSignSlot (at : SubselectSlot) (mark : ℕ) (to : SubselectSlot) : Type 0 where
+  pub step : (reading : SubselectReading) (spaced : Bool) (c : ℕ) → choice.step (before reading at spaced) c ≡ choice.sign mark to (before reading at spaced) c
+  pub unended : (reading : SubselectReading) → choice.choice_at at reading ≡ None
 
-sign_read : (at : Slot) (mark : ℕ) (to : Slot) (is : IsSignSlot at mark to) (r : Reading) (spaced : Bool) (cs : List ℕ) (v : Subselect) → From (before r at spaced) v cs → (Spacing ▸ (Exactly (mark ∷ []) ▸ From (before r to true) v)) cs
+sign_read : (at : SubselectSlot) (mark : ℕ) (to : SubselectSlot) (is : IsSignSlot at mark to) (r : SubselectReading) (spaced : Bool) (cs : List ℕ) (v : Subselect) → From (before r at spaced) v cs → (Spacing ▸ (Exactly (mark ∷ []) ▸ From (before r to true) v)) cs
 sign_read at mark to is r spaced [] v e = let none : None ≡ Some v = sym (is.unended (before r at spaced)) ∙ e in absurd (cc)
 sign_read at mark to is r spaced (c ∷ cs) v e =
     branch (on cs) v (is_spacing c) _ _ (λ t f. in_front is_spacing _ c cs t (sign_read at mark to is r spaced cs v f))
@@ -251,13 +251,13 @@ pub at_equals : IsSignSlot slot.Equals 61 slot.Value
 at_equals = record { step = λ reading spaced c. refl; unended = λ reading. refl }
 
 -- a text between quotes, from after the first quote
-record QuotedRead (r : Reading) (t cs : List ℕ) (v : Subselect) : Type 0 where
+record QuotedRead (r : SubselectReading) (t cs : List ℕ) (v : Subselect) : Type 0 where
   word : List ℕ
   rest : List ℕ
   is : cs ≡ doubled word ++ 39 ∷ rest
   more : From (choice.with_condition r (Text (t ++ word)) true) v rest
 
-quoted_read : (r : Reading) (t cs : List ℕ) (v : Subselect) → From (record r { word = t; spaced = true; slot = slot.Quoted }) v cs → QuotedRead r t cs v
+quoted_read : (r : SubselectReading) (t cs : List ℕ) (v : Subselect) → From (record r { word = t; spaced = true; slot = slot.Quoted }) v cs → QuotedRead r t cs v
 quoted_read r t [] v e = absurd (cc)
 quoted_read r t (c ∷ []) v e = branch (on []) v (c == 39) _ _ (λ u f. absurd (cc)) (λ u f. absurd (cc)) e
 quoted_read r t (c ∷ d ∷ cs) v e =
@@ -281,10 +281,10 @@ abbrev pub closes : Compared → Bool
 closes (Routed name) = false
 closes (Text text) = true
 
-abbrev AfterValue : Reading → Subselect → Form
-AfterValue r v text = (value : Compared) × (ValueOf value ▸ From (choice.with_condition r value (closes value)) v) text
+abbrev AfterValue : SubselectReading → Subselect → Form
+AfterValue r v text = (value : Compared) × (ComparedOf value ▸ From (choice.with_condition r value (closes value)) v) text
 
-value_read : (r : Reading) (cs : List ℕ) (v : Subselect) → From (before r slot.Value true) v cs → (Spacing ▸ AfterValue r v) cs
+value_read : (r : SubselectReading) (cs : List ℕ) (v : Subselect) → From (before r slot.Value true) v cs → (Spacing ▸ AfterValue r v) cs
 value_read r [] v e = absurd (cc)
 value_read r (c ∷ cs) v e =
     branch (on cs) v (is_spacing c) _ _ (λ t f. in_front is_spacing (AfterValue r v) c cs t (value_read r cs v f))
@@ -301,21 +301,21 @@ value_read r (c ∷ cs) v e =
         ([], c ∷ cs, refl, refl, (Text q.word, (quoted q.word, q.rest, cut, refl, q.more)))
 
 -- after a condition
-abbrev Closing : Reading → Subselect → Form
+abbrev Closing : SubselectReading → Subselect → Form
 Closing r v = Exactly (codes ")") ▸ From (before r slot.Close true) v
 
-abbrev AfterCondition : Reading → Bool → Subselect → List ℕ → Type 0
+abbrev AfterCondition : SubselectReading → Bool → Subselect → List ℕ → Type 0
 AfterCondition r spaced v text = ((SpacingIf spaced ▸ (Keyword (codes "and") ▸ From (before r slot.Tested false) v)) text) ⊎ ((Spacing ▸ Closing r v) text)
 
 only_and : (word : List ℕ) → choice.is_keyword slot.Next word ≡ true → word ≡ codes "and"
 only_and word e = (bytes_eq-Decides word (codes "and")).0 e
 
-and_read : (r : Reading) (text : List ℕ) (v : Subselect) → Begun r slot.Next v text → (Keyword (codes "and") ▸ From (before r slot.Tested false) v) text
+and_read : (r : SubselectReading) (text : List ℕ) (v : Subselect) → Begun r slot.Next v text → (Keyword (codes "and") ▸ From (before r slot.Tested false) v) text
 and_read r text v begun =
     let q = begun_keyword slot.Next at_next refl r text v begun in
     (q.2.0, q.2.1, q.2.2, q.2.3 ∙ only_and q.0 q.1, q.2.4)
 
-next_read : (r : Reading) (spaced : Bool) (cs : List ℕ) (v : Subselect) → From (before r slot.Next spaced) v cs → AfterCondition r spaced v cs
+next_read : (r : SubselectReading) (spaced : Bool) (cs : List ℕ) (v : Subselect) → From (before r slot.Next spaced) v cs → AfterCondition r spaced v cs
 next_read r spaced [] v e = absurd (cc)
 next_read r true (c ∷ cs) v e =
     branch (on cs) v (c == 41) _ _ (λ u g. inr ([], c ∷ cs, refl, refl, (c ∷ [], cs, refl, ap (λ x. x ∷ []) (eqb-true c 41 u), g)))
@@ -334,10 +334,10 @@ next_read r false (c ∷ cs) v e =
     longer t (inr q) = inr (in_front is_spacing (Closing r v) c cs t q)
 
 -- after the closing parenthesis
-abbrev made : Reading → Subselect
+abbrev made : SubselectReading → Subselect
 made r = record { by = r.by; column = r.column; table = r.table; conditions = r.conditions }
 
-close_read : (r : Reading) (cs : List ℕ) (v : Subselect) → From (before r slot.Close true) v cs → Spacing cs × (made r ≡ v)
+close_read : (r : SubselectReading) (cs : List ℕ) (v : Subselect) → From (before r slot.Close true) v cs → Spacing cs × (made r ≡ v)
 close_read r [] v e = (refl, same e)
   where
     same : Some (made r) ≡ Some v → made r ≡ v
@@ -345,11 +345,11 @@ close_read r [] v e = (refl, same e)
 close_read r (c ∷ cs) v e = branch (on cs) v (is_spacing c) _ _ (λ t f. let q = close_read r cs v f in (rw t q.0, q.1)) (λ t f. absurd (cc)) e
 
 -- one condition, and what follows it
-record OneCondition (r : Reading) (cs : List ℕ) (v : Subselect) : Type 0 where
+record OneCondition (r : SubselectReading) (cs : List ℕ) (v : Subselect) : Type 0 where
   condition : Condition
   is : (ConditionOf condition ▸ From (before (record r { tested = condition.column; conditions = r.conditions ++ condition ∷ [] }) slot.Next (closes condition.value)) v) cs
 
-one_condition : (r : Reading) (cs : List ℕ) (v : Subselect) → AfterName r slot.Tested v cs → OneCondition r cs v
+one_condition : (r : SubselectReading) (cs : List ℕ) (v : Subselect) → AfterName r slot.Tested v cs → OneCondition r cs v
 one_condition r cs v (name, (a, t1, e1, named, f)) =
     let q = sign_read slot.Equals 61 slot.Value at_equals (record r { tested = name }) false t1 v f in
     let s = q.4 in
@@ -357,11 +357,11 @@ one_condition r cs v (name, (a, t1, e1, named, f)) =
     let x = p.4 in
     record {
       condition = record { column = name; value = x.0 };
-      is = grouped (Name name) _ _ cs a t1 e1 named (grouped Spacing _ _ t1 q.0 q.1 q.2 q.3 (grouped (Exactly (codes "=")) _ _ q.1 s.0 s.1 s.2 s.3 (grouped Spacing (ValueOf x.0) _ s.1 p.0 p.1 p.2 p.3 x.1)));
+      is = grouped (Name name) _ _ cs a t1 e1 named (grouped Spacing _ _ t1 q.0 q.1 q.2 q.3 (grouped (Exactly (codes "=")) _ _ q.1 s.0 s.1 s.2 s.3 (grouped Spacing (ComparedOf x.0) _ s.1 p.0 p.1 p.2 p.3 x.1)));
     }
 
 -- all conditions
-record AllConditions (r : Reading) (cs : List ℕ) (v : Subselect) : Type 0 where
+record AllConditions (r : SubselectReading) (cs : List ℕ) (v : Subselect) : Type 0 where
   first : Condition
   others : List Condition
   made_is : v ≡ record { by = r.by; column = r.column; table = r.table; conditions = r.conditions ++ first ∷ others }
@@ -383,7 +383,7 @@ after_is : (value : Compared) (text : List ℕ) → SpacingIf (closes value) tex
 after_is (Routed name) text e = e
 after_is (Text content) text e = e
 
-onward : (n : ℕ) (r : Reading) (cs : List ℕ) (v : Subselect) → length cs ≤ suc n → ((next : Reading) (more : List ℕ) → length more ≤ n → AfterName next slot.Tested v more → AllConditions next more v)
+onward : (n : ℕ) (r : SubselectReading) (cs : List ℕ) (v : Subselect) → length cs ≤ suc n → ((next : SubselectReading) (more : List ℕ) → length more ≤ n → AfterName next slot.Tested v more → AllConditions next more v)
     → (q : OneCondition r cs v) → AfterCondition (record r { tested = q.condition.column; conditions = r.conditions ++ q.condition ∷ [] }) (closes q.condition.value) v q.is.1 → AllConditions r cs v
 onward n r cs v most again q (inr (a, b, e, spaces, (mark, more, f, is, g))) =
     let end = close_read (record r { tested = q.condition.column; conditions = r.conditions ++ q.condition ∷ [] }) more v g in
@@ -401,7 +401,7 @@ onward n r cs v most again q (inl (a, b, e, spaces, (word, more, f, is, g))) =
           (grouped (Keyword (codes "and")) _ _ b word more f is (grouped Gap (ConditionsOf (rest.first ∷ rest.others)) _ more s.0 s.1 s.2 s.3 rest.is)));
     }
 
-conditions : (n : ℕ) (r : Reading) (cs : List ℕ) (v : Subselect) → length cs ≤ n → AfterName r slot.Tested v cs → AllConditions r cs v
+conditions : (n : ℕ) (r : SubselectReading) (cs : List ℕ) (v : Subselect) → length cs ≤ n → AfterName r slot.Tested v cs → AllConditions r cs v
 conditions zero r [] v most (name, ([], b, e, (same, good), f)) = let none : is_name_text [] ≡ true = subst (λ w. is_name_text w ≡ true) (sym same) good in absurd (cc)
 conditions zero r [] v most (name, (x ∷ xs, b, e, named, f)) = absurd (cc)
 conditions zero r (c ∷ cs) v most e = absurd (omega (arith, most))
@@ -419,8 +419,8 @@ which_is word e = at (bytes_eq word (codes "external_id")) (bytes_eq word (codes
     at false false f g h = absurd (cc)
 
 -- a slot of one keyword
-one_keyword : (at : Slot) (is : IsWordSlot at) (no_name : choice.takes_name at ≡ false) (words : Keywords at) (keyword : List ℕ) (only : (word : List ℕ) → choice.is_keyword at word ≡ true → word ≡ keyword)
-    (r : Reading) (spaced : Bool) (cs : List ℕ) (v : Subselect) → From (before r at spaced) v cs → (SpacingIf spaced ▸ (Keyword keyword ▸ From (choice.finished_at at (within r at keyword)) v)) cs
+one_keyword : (at : SubselectSlot) (is : IsWordSlot at) (no_name : choice.takes_name at ≡ false) (words : Keywords at) (keyword : List ℕ) (only : (word : List ℕ) → choice.is_keyword at word ≡ true → word ≡ keyword)
+    (r : SubselectReading) (spaced : Bool) (cs : List ℕ) (v : Subselect) → From (before r at spaced) v cs → (SpacingIf spaced ▸ (Keyword keyword ▸ From (choice.finished_at at (within r at keyword)) v)) cs
 one_keyword at is no_name words keyword only r spaced cs v e = by (keyword_read at is no_name words r spaced cs v e)
   where
     by : (SpacingIf spaced ▸ AfterKeyword r at v) cs → (SpacingIf spaced ▸ (Keyword keyword ▸ From (choice.finished_at at (within r at keyword)) v)) cs
@@ -435,12 +435,12 @@ is_word keyword word e = (bytes_eq-Decides word keyword).0 e
 abbrev Rest : List Condition → Form
 Rest conditions = Gap ▸ Keyword (codes "where") ▸ Gap ▸ ConditionsOf conditions ▸ Spacing ▸ Exactly (codes ")") ▸ Spacing
 
-record WhereRead (r : Reading) (cs : List ℕ) (v : Subselect) : Type 0 where
+record WhereRead (r : SubselectReading) (cs : List ℕ) (v : Subselect) : Type 0 where
   conditions : List Condition
   made_is : v ≡ record { by = r.by; column = r.column; table = r.table; conditions = r.conditions ++ conditions }
   is : Rest conditions cs
 
-where_read : (r : Reading) (cs : List ℕ) (v : Subselect) → From (before r slot.Where false) v cs → WhereRead r cs v
+where_read : (r : SubselectReading) (cs : List ℕ) (v : Subselect) → From (before r slot.Where false) v cs → WhereRead r cs v
 where_read r cs v e =
     let p = one_keyword slot.Where at_where refl (λ reading c. refl) (codes "where") (is_word (codes "where")) r false cs v e in
     let q = p.4 in
@@ -449,14 +449,14 @@ where_read r cs v e =
     record { conditions = all.first ∷ all.others; made_is = all.made_is; is = (p.0, p.1, p.2, p.3, (q.0, q.1, q.2, q.3, (s.0, s.1, s.2, s.3, all.is))) }
 
 -- from `select` on
-record SelectRead (r : Reading) (cs : List ℕ) (v : Subselect) : Type 0 where
+record SelectRead (r : SubselectReading) (cs : List ℕ) (v : Subselect) : Type 0 where
   column : List ℕ
   table : List ℕ
   conditions : List Condition
   made_is : v ≡ record { by = r.by; column = column; table = table; conditions = r.conditions ++ conditions }
   is : (Spacing ▸ Keyword (codes "select") ▸ Gap ▸ Name column ▸ Gap ▸ Keyword (codes "from") ▸ Gap ▸ Name table ▸ Rest conditions) cs
 
-select_read : (r : Reading) (cs : List ℕ) (v : Subselect) → From (before r slot.Select true) v cs → SelectRead r cs v
+select_read : (r : SubselectReading) (cs : List ℕ) (v : Subselect) → From (before r slot.Select true) v cs → SelectRead r cs v
 select_read r cs v e =
     let p = one_keyword slot.Select at_select refl (λ reading c. refl) (codes "select") (is_word (codes "select")) r true cs v e in
     let q = p.4 in

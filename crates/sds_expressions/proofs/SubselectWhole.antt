@@ -11,13 +11,13 @@ use Rattle.sds_types.specs.declared.subselect.NodeColumn.{NodeColumn}
 use Rattle.sds_types.specs.declared.subselect.NodeColumn.TheVariants.{ExternalId, NodeId}
 use Rattle.sds_types.specs.declared.subselect.Subselect.{Subselect}
 use Rattle.sds_value.specs.Names.{is_name_text, is_name_character}
-use Rattle.sds_expressions.specs.declared.subselect_router.Reading.{Reading}
-use Rattle.sds_expressions.specs.declared.subselect_router.Slot.{Slot}
-use Rattle.sds_expressions.specs.declared.subselect_router.Slot.TheVariants as slot
+use Rattle.sds_expressions.specs.declared.subselect_router.SubselectReading.{SubselectReading}
+use Rattle.sds_expressions.specs.declared.subselect_router.SubselectSlot.{SubselectSlot}
+use Rattle.sds_expressions.specs.declared.subselect_router.SubselectSlot.TheVariants as slot
 use Rattle.sds_expressions.specs.SubselectRouter as choice
 use Rattle.sds_expressions.specs.Forms.{◌▸◌, Exactly, Name}
 use Rattle.sds_expressions.specs.ColumnForm.{doubled}
-use Rattle.sds_expressions.specs.SubselectForm.{is_spacing, Spacing, Gap, Keyword, keyword_of, ValueOf, ConditionOf, SpacingAfter, ConditionsOf, IsSubselectForm}
+use Rattle.sds_expressions.specs.SubselectForm.{is_spacing, Spacing, Gap, Keyword, keyword_of, ComparedOf, ConditionOf, SpacingAfter, ConditionsOf, IsSubselectForm}
 use Rattle.sds_expressions.proofs.ColumnHope.{front_is}
 use Rattle.sds_expressions.proofs.SubselectSound.{accept, on, before, within, SpacingIf, IsWordSlot, IsSignSlot, closes, at_prefix, at_which, at_in, at_select, at_column, at_from, at_table, at_where, at_tested, at_routed, at_next, at_dot, at_open, at_equals}
 
@@ -89,33 +89,33 @@ letter_is_not c k n e f g = at (c == n) refl
     at false h = refl
 
 -- spacing changes nothing but that a word may begin
-abbrev Passes : Slot → Type 0
-Passes at = (r : Reading) (spaced : Bool) (c : ℕ) → is_spacing c ≡ true → choice.step (before r at spaced) c ≡ Some (before r at true)
+abbrev Passes : SubselectSlot → Type 0
+Passes at = (r : SubselectReading) (spaced : Bool) (c : ℕ) → is_spacing c ≡ true → choice.step (before r at spaced) c ≡ Some (before r at true)
 
-over_spacing : (at : Slot) → Passes at → (r : Reading) (a rest : List ℕ) → Spacing a → accept (before r at true) (a ++ rest) ≡ accept (before r at true) rest
+over_spacing : (at : SubselectSlot) → Passes at → (r : SubselectReading) (a rest : List ℕ) → Spacing a → accept (before r at true) (a ++ rest) ≡ accept (before r at true) rest
 over_spacing at passes r [] rest all = refl
 over_spacing at passes r (c ∷ cs) rest all = let (here, more) = and_parts (is_spacing c) (list_all is_spacing cs) all in rw (passes r true c here) (over_spacing at passes r cs rest more)
 
-over_if : (at : Slot) → Passes at → (r : Reading) (spaced : Bool) (a rest : List ℕ) → SpacingIf spaced a → accept (before r at spaced) (a ++ rest) ≡ accept (before r at true) rest
+over_if : (at : SubselectSlot) → Passes at → (r : SubselectReading) (spaced : Bool) (a rest : List ℕ) → SpacingIf spaced a → accept (before r at spaced) (a ++ rest) ≡ accept (before r at true) rest
 over_if at passes r true a rest all = over_spacing at passes r a rest all
 over_if at passes r false [] rest (all, some) = let none : false ≡ true = some in absurd (cc)
 over_if at passes r false (c ∷ cs) rest (all, some) = let (here, more) = and_parts (is_spacing c) (list_all is_spacing cs) all in rw (passes r false c here) (over_spacing at passes r cs rest more)
 
 -- a keyword
-record IsKeywordOf (at : Slot) (k : ℕ) (ks : List ℕ) : Type 0 where
+record IsKeywordOf (at : SubselectSlot) (k : ℕ) (ks : List ℕ) : Type 0 where
   slot_is : IsWordSlot at
   no_name : choice.takes_name at ≡ false
-  begins : (r : Reading) (c : ℕ) → to_ascii_lowercase c ≡ k → choice.step (before r at true) c ≡ Some (within r at (k ∷ []))
+  begins : (r : SubselectReading) (c : ℕ) → to_ascii_lowercase c ≡ k → choice.step (before r at true) c ≡ Some (within r at (k ∷ []))
   fronts : (text rest : List ℕ) → k ∷ ks ≡ text ++ rest → choice.begins_keyword at text ≡ true
   last : (c : ℕ) → choice.begins_keyword at ((k ∷ ks) ++ c ∷ []) ≡ false
   whole : choice.is_keyword at (k ∷ ks) ≡ true
 
-in_word : (at : Slot) (is : IsWordSlot at) (no_name : choice.takes_name at ≡ false) (r : Reading) (w : ℕ) (ws : List ℕ) (c : ℕ) → choice.step (within r at (w ∷ ws)) c ≡ choice.in_keyword (within r at (w ∷ ws)) c
+in_word : (at : SubselectSlot) (is : IsWordSlot at) (no_name : choice.takes_name at ≡ false) (r : SubselectReading) (w : ℕ) (ws : List ℕ) (c : ℕ) → choice.step (within r at (w ∷ ws)) c ≡ choice.in_keyword (within r at (w ∷ ws)) c
 in_word at is no_name r w ws c =
     let chosen : choice.outside (w ∷ ws) (within r at (w ∷ ws)) c ≡ choice.in_keyword (within r at (w ∷ ws)) c = rw no_name refl in
     is.outside (within r at (w ∷ ws)) c ∙ chosen
 
-over_letters : (at : Slot) (k : ℕ) (ks : List ℕ) (is : IsKeywordOf at k ks) (r : Reading) (w : ℕ) (ws a rest : List ℕ) → k ∷ ks ≡ (w ∷ ws) ++ map to_ascii_lowercase a
+over_letters : (at : SubselectSlot) (k : ℕ) (ks : List ℕ) (is : IsKeywordOf at k ks) (r : SubselectReading) (w : ℕ) (ws a rest : List ℕ) → k ∷ ks ≡ (w ∷ ws) ++ map to_ascii_lowercase a
     → accept (within r at (w ∷ ws)) (a ++ rest) ≡ accept (within r at ((w ∷ ws) ++ map to_ascii_lowercase a)) rest
 over_letters at k ks is r w ws [] rest e = ap (λ x. accept (within r at (w ∷ x)) rest) (sym (append-nil ws))
 over_letters at k ks is r w ws (c ∷ cs) rest e =
@@ -124,13 +124,13 @@ over_letters at k ks is r w ws (c ∷ cs) rest e =
     let step : choice.step (within r at (w ∷ ws)) c ≡ Some (within r at (w ∷ (ws ++ to_ascii_lowercase c ∷ []))) = in_word at is.slot_is is.no_name r w ws c ∙ rw front refl in
     rw step (over_letters at k ks is r w (ws ++ to_ascii_lowercase c ∷ []) cs rest (e ∙ sym same) ∙ ap (λ x. accept (within r at x) rest) same)
 
-end_keyword : (at : Slot) (k : ℕ) (ks : List ℕ) (is : IsKeywordOf at k ks) (r : Reading) (rest : List ℕ) → accept (within r at (k ∷ ks)) rest ≡ accept (choice.finished_at at (within r at (k ∷ ks))) rest
+end_keyword : (at : SubselectSlot) (k : ℕ) (ks : List ℕ) (is : IsKeywordOf at k ks) (r : SubselectReading) (rest : List ℕ) → accept (within r at (k ∷ ks)) rest ≡ accept (choice.finished_at at (within r at (k ∷ ks))) rest
 end_keyword at k ks is r [] = is.slot_is.unended (within r at (k ∷ ks)) ∙ sym (is.slot_is.unfinished (within r at (k ∷ ks)))
 end_keyword at k ks is r (c ∷ cs) =
     let step : choice.step (within r at (k ∷ ks)) c ≡ choice.fresh (choice.finished_at at (within r at (k ∷ ks))) c = in_word at is.slot_is is.no_name r k ks c ∙ rw (is.last (to_ascii_lowercase c), is.whole) refl in
     ap (option_and_then (on cs)) (step ∙ sym (is.slot_is.goes_on (within r at (k ∷ ks)) c))
 
-over_keyword : (at : Slot) (k : ℕ) (ks : List ℕ) (is : IsKeywordOf at k ks) (r : Reading) (a rest : List ℕ) → Keyword (k ∷ ks) a → accept (before r at true) (a ++ rest) ≡ accept (choice.finished_at at (within r at (k ∷ ks))) rest
+over_keyword : (at : SubselectSlot) (k : ℕ) (ks : List ℕ) (is : IsKeywordOf at k ks) (r : SubselectReading) (a rest : List ℕ) → Keyword (k ∷ ks) a → accept (before r at true) (a ++ rest) ≡ accept (choice.finished_at at (within r at (k ∷ ks))) rest
 over_keyword at k ks is r [] rest e = absurd (cc)
 over_keyword at k ks is r (c ∷ cs) rest e =
     let first : to_ascii_lowercase c ≡ k = cc in
@@ -141,10 +141,10 @@ over_keyword at k ks is r (c ∷ cs) rest e =
 abbrev Stops : List ℕ → Type 0
 Stops rest = (rest ≡ []) ⊎ ((c : ℕ) × (cs : List ℕ) × (rest ≡ c ∷ cs) × (is_name_character c ≡ false))
 
-abbrev BeginsName : Slot → Type 0
-BeginsName at = (r : Reading) (c : ℕ) → is_name_character c ≡ true → choice.step (before r at true) c ≡ Some (within r at (c ∷ []))
+abbrev BeginsName : SubselectSlot → Type 0
+BeginsName at = (r : SubselectReading) (c : ℕ) → is_name_character c ≡ true → choice.step (before r at true) c ≡ Some (within r at (c ∷ []))
 
-in_name : (at : Slot) (is : IsWordSlot at) (name : choice.takes_name at ≡ true) (r : Reading) (w : ℕ) (ws : List ℕ) (c : ℕ) → choice.step (within r at (w ∷ ws)) c ≡ choice.in_name (within r at (w ∷ ws)) c
+in_name : (at : SubselectSlot) (is : IsWordSlot at) (name : choice.takes_name at ≡ true) (r : SubselectReading) (w : ℕ) (ws : List ℕ) (c : ℕ) → choice.step (within r at (w ∷ ws)) c ≡ choice.in_name (within r at (w ∷ ws)) c
 in_name at is name r w ws c =
     let chosen : choice.outside (w ∷ ws) (within r at (w ∷ ws)) c ≡ choice.in_name (within r at (w ∷ ws)) c = rw name refl in
     is.outside (within r at (w ∷ ws)) c ∙ chosen
@@ -152,7 +152,7 @@ in_name at is name r w ws c =
 one_less : (w a : List ℕ) (c : ℕ) → nat_le (length (w ++ c ∷ a)) 50 ≡ true → nat_lt (length w) 50 ≡ true
 one_less w a c e = let l : length (w ++ c ∷ a) ≡ length w + length (c ∷ a) = length-append w (c ∷ a) in grind (arith, nat_tests)
 
-over_characters : (at : Slot) (is : IsWordSlot at) (name : choice.takes_name at ≡ true) (r : Reading) (w : ℕ) (ws a rest : List ℕ) → list_all is_name_character a ≡ true → nat_le (length ((w ∷ ws) ++ a)) 50 ≡ true
+over_characters : (at : SubselectSlot) (is : IsWordSlot at) (name : choice.takes_name at ≡ true) (r : SubselectReading) (w : ℕ) (ws a rest : List ℕ) → list_all is_name_character a ≡ true → nat_le (length ((w ∷ ws) ++ a)) 50 ≡ true
     → accept (within r at (w ∷ ws)) (a ++ rest) ≡ accept (within r at ((w ∷ ws) ++ a)) rest
 over_characters at is name r w ws [] rest all short = ap (λ x. accept (within r at (w ∷ x)) rest) (sym (append-nil ws))
 over_characters at is name r w ws (c ∷ cs) rest all short =
@@ -161,13 +161,13 @@ over_characters at is name r w ws (c ∷ cs) rest all short =
     let step : choice.step (within r at (w ∷ ws)) c ≡ Some (within r at (w ∷ (ws ++ c ∷ []))) = in_name at is name r w ws c ∙ rw (here, one_less (w ∷ ws) cs c short) refl in
     rw step (over_characters at is name r w (ws ++ c ∷ []) cs rest more (ap (λ x. nat_le (length x) 50) same ∙ short) ∙ ap (λ x. accept (within r at x) rest) same)
 
-end_name : (at : Slot) (is : IsWordSlot at) (name : choice.takes_name at ≡ true) (r : Reading) (w : ℕ) (ws rest : List ℕ) → Stops rest → accept (within r at (w ∷ ws)) rest ≡ accept (choice.finished_at at (within r at (w ∷ ws))) rest
+end_name : (at : SubselectSlot) (is : IsWordSlot at) (name : choice.takes_name at ≡ true) (r : SubselectReading) (w : ℕ) (ws rest : List ℕ) → Stops rest → accept (within r at (w ∷ ws)) rest ≡ accept (choice.finished_at at (within r at (w ∷ ws))) rest
 end_name at is name r w ws rest (inl e) = rw e (is.unended (within r at (w ∷ ws)) ∙ sym (is.unfinished (within r at (w ∷ ws))))
 end_name at is name r w ws rest (inr (c, cs, e, other)) =
     let step : choice.step (within r at (w ∷ ws)) c ≡ choice.fresh (choice.finished_at at (within r at (w ∷ ws))) c = in_name at is name r w ws c ∙ rw other refl in
     rw e (ap (option_and_then (on cs)) (step ∙ sym (is.goes_on (within r at (w ∷ ws)) c)))
 
-over_name : (at : Slot) (is : IsWordSlot at) (name : choice.takes_name at ≡ true) (begins : BeginsName at) (r : Reading) (word a rest : List ℕ) → Name word a → Stops rest
+over_name : (at : SubselectSlot) (is : IsWordSlot at) (name : choice.takes_name at ≡ true) (begins : BeginsName at) (r : SubselectReading) (word a rest : List ℕ) → Name word a → Stops rest
     → accept (before r at true) (a ++ rest) ≡ accept (choice.finished_at at (within r at word)) rest
 over_name at is name begins r word a rest (same, good) stops = ap (λ x. accept (before r at true) (x ++ rest)) same ∙ by word good
   where
@@ -180,7 +180,7 @@ over_name at is name begins r word a rest (same, good) stops = ap (λ x. accept 
         rw (begins r c here) (over_characters at is name r c [] cs rest more short ∙ end_name at is name r c cs rest stops)
 
 -- a sign
-over_sign : (at : Slot) (mark : ℕ) (to : Slot) (is : IsSignSlot at mark to) → is_spacing mark ≡ false → (mark == mark) ≡ true → (r : Reading) (spaced : Bool) (a b rest : List ℕ) → Spacing a → Exactly (mark ∷ []) b
+over_sign : (at : SubselectSlot) (mark : ℕ) (to : SubselectSlot) (is : IsSignSlot at mark to) → is_spacing mark ≡ false → (mark == mark) ≡ true → (r : SubselectReading) (spaced : Bool) (a b rest : List ℕ) → Spacing a → Exactly (mark ∷ []) b
     → accept (before r at spaced) (a ++ (b ++ rest)) ≡ accept (before r to true) rest
 over_sign at mark to is other same r spaced [] b rest all e =
     let step : choice.step (before r at spaced) mark ≡ Some (before r to true) = is.step r spaced mark ∙ rw (other, same) refl in
@@ -219,10 +219,10 @@ and_ends (Text text) [] (c ∷ cs) rest all e = let first : to_ascii_lowercase c
 and_ends (Text text) (c ∷ cs) b rest all e = inr (c, cs ++ (b ++ rest), refl, spacing_no_quote c (and_parts (is_spacing c) (list_all is_spacing cs) all).0)
 
 -- a value
-abbrev quoting : Reading → List ℕ → Reading
+abbrev quoting : SubselectReading → List ℕ → SubselectReading
 quoting r w = record r { word = w; spaced = true; slot = slot.Quoted }
 
-over_quoted : (r : Reading) (t a rest : List ℕ) → accept (quoting r t) (doubled a ++ 39 ∷ rest) ≡ accept (record r { word = t ++ a; spaced = true; slot = slot.Quote }) rest
+over_quoted : (r : SubselectReading) (t a rest : List ℕ) → accept (quoting r t) (doubled a ++ 39 ∷ rest) ≡ accept (record r { word = t ++ a; spaced = true; slot = slot.Quote }) rest
 over_quoted r t [] rest = ap (λ w. accept (record r { word = w; spaced = true; slot = slot.Quote }) rest) (sym (append-nil t))
 over_quoted r t (c ∷ cs) rest = at (c == 39) refl (over_quoted r (t ++ c ∷ []) cs rest ∙ ap (λ w. accept (record r { word = w; spaced = true; slot = slot.Quote }) rest) (append_assoc t (c ∷ []) cs))
   where
@@ -231,7 +231,7 @@ over_quoted r t (c ∷ cs) rest = at (c == 39) refl (over_quoted r (t ++ c ∷ [
     at true f more = rw f (ap (λ x. accept (quoting r (t ++ x ∷ [])) (doubled cs ++ 39 ∷ rest)) (sym (eqb-true c 39 f)) ∙ more)
     at false f more = rw (f, f) more
 
-quote_end : (r : Reading) (t rest : List ℕ) → NoQuote rest → accept (record r { word = t; spaced = true; slot = slot.Quote }) rest ≡ accept (choice.with_condition r (Text t) true) rest
+quote_end : (r : SubselectReading) (t rest : List ℕ) → NoQuote rest → accept (record r { word = t; spaced = true; slot = slot.Quote }) rest ≡ accept (choice.with_condition r (Text t) true) rest
 quote_end r t rest (inl e) = rw e refl
 quote_end r t rest (inr (c, cs, e, other)) = rw (e, other) refl
 
@@ -241,7 +241,7 @@ passes_routed r spaced c e = rw e refl
 begins_routed : BeginsName slot.Routed
 begins_routed r c e = rw (name_no_spacing c e, e) refl
 
-over_value : (r : Reading) (value : Compared) (a rest : List ℕ) → ValueOf value a → Ends value rest → accept (before r slot.Value true) (a ++ rest) ≡ accept (choice.with_condition r value (closes value)) rest
+over_value : (r : SubselectReading) (value : Compared) (a rest : List ℕ) → ComparedOf value a → Ends value rest → accept (before r slot.Value true) (a ++ rest) ≡ accept (choice.with_condition r value (closes value)) rest
 over_value r (Routed name) a rest (colon, t1, e1, is, (spaces, t2, e2, all, named)) ends =
     ap (λ x. accept (before r slot.Value true) (x ++ rest)) (e1 ∙ ap (λ x. x ++ t1) is)
     ∙ (ap (λ x. accept (before r slot.Routed true) (x ++ rest)) e2
@@ -252,7 +252,7 @@ over_value r (Text text) a rest e ends =
     ∙ (ap (λ x. accept (record r { word = []; spaced = true; slot = slot.Quoted }) x) (append_assoc (doubled text) (39 ∷ []) rest)
     ∙ (over_quoted r [] text rest ∙ quote_end r text rest ends))
 
-value_spacing : (r : Reading) (a rest : List ℕ) → Spacing a → accept (before r slot.Value true) (a ++ rest) ≡ accept (before r slot.Value true) rest
+value_spacing : (r : SubselectReading) (a rest : List ℕ) → Spacing a → accept (before r slot.Value true) (a ++ rest) ≡ accept (before r slot.Value true) rest
 value_spacing r [] rest all = refl
 value_spacing r (c ∷ cs) rest all = let (here, more) = and_parts (is_spacing c) (list_all is_spacing cs) all in rw here (value_spacing r cs rest more)
 
@@ -263,13 +263,13 @@ begins_tested r c e = rw (name_no_spacing c e, e) refl
 passes_tested : Passes slot.Tested
 passes_tested r spaced c e = rw e refl
 
-abbrev behind : Reading → Condition → Reading
+abbrev behind : SubselectReading → Condition → SubselectReading
 behind r condition = before (record r { tested = condition.column; conditions = r.conditions ++ condition ∷ [] }) slot.Next (closes condition.value)
 
 regroup : (a b c text rest : List ℕ) → text ≡ a ++ b → b ++ rest ≡ c → text ++ rest ≡ a ++ c
 regroup a b c text rest e f = ap (λ x. x ++ rest) e ∙ (append_assoc a b rest ∙ ap (λ x. a ++ x) f)
 
-over_condition : (r : Reading) (condition : Condition) (text rest : List ℕ) → ConditionOf condition text → Ends condition.value rest → accept (before r slot.Tested true) (text ++ rest) ≡ accept (behind r condition) rest
+over_condition : (r : SubselectReading) (condition : Condition) (text rest : List ℕ) → ConditionOf condition text → Ends condition.value rest → accept (before r slot.Tested true) (text ++ rest) ≡ accept (behind r condition) rest
 over_condition r condition text rest (name, t1, e1, named, (a, t2, e2, all, (mark, t3, e3, is, (b, value, e4, spaces, says)))) ends =
     let cut : text ++ rest ≡ name ++ (a ++ (mark ++ (b ++ (value ++ rest)))) = regroup name t1 _ text rest e1 (regroup a t2 _ t1 rest e2 (regroup mark t3 _ t2 rest e3 (regroup b value _ t3 rest e4 refl))) in
     let with_name = record r { tested = condition.column } in
@@ -296,19 +296,19 @@ after_if : (value : Compared) (text : List ℕ) → SpacingAfter value text → 
 after_if (Routed name) text e = e
 after_if (Text content) text e = e
 
-over_closing : (r : Reading) (spaced : Bool) (a rest : List ℕ) → Spacing a → accept (before r slot.Next spaced) (a ++ (41 ∷ rest)) ≡ accept (before r slot.Close true) rest
+over_closing : (r : SubselectReading) (spaced : Bool) (a rest : List ℕ) → Spacing a → accept (before r slot.Next spaced) (a ++ (41 ∷ rest)) ≡ accept (before r slot.Close true) rest
 over_closing r spaced [] rest all = refl
 over_closing r spaced (c ∷ cs) rest all = let (here, more) = and_parts (is_spacing c) (list_all is_spacing cs) all in rw (spacing_no_end c here, here) (over_closing r true cs rest more)
 
-abbrev made : Reading → List Condition → Subselect
+abbrev made : SubselectReading → List Condition → Subselect
 made r conditions = record { by = r.by; column = r.column; table = r.table; conditions = r.conditions ++ conditions }
 
-over_close : (r : Reading) (a : List ℕ) → Spacing a → accept (before r slot.Close true) a ≡ Some (record { by = r.by; column = r.column; table = r.table; conditions = r.conditions })
+over_close : (r : SubselectReading) (a : List ℕ) → Spacing a → accept (before r slot.Close true) a ≡ Some (record { by = r.by; column = r.column; table = r.table; conditions = r.conditions })
 over_close r [] all = refl
 over_close r (c ∷ cs) all = let (here, more) = and_parts (is_spacing c) (list_all is_spacing cs) all in rw here (over_close r cs more)
 
 -- all conditions
-over_conditions : (conditions : List Condition) (r : Reading) (text a mark b : List ℕ) → ConditionsOf conditions text → Spacing a → Exactly (codes ")") mark → Spacing b
+over_conditions : (conditions : List Condition) (r : SubselectReading) (text a mark b : List ℕ) → ConditionsOf conditions text → Spacing a → Exactly (codes ")") mark → Spacing b
     → accept (before r slot.Tested true) (text ++ (a ++ (mark ++ b))) ≡ Some (made r conditions)
 over_conditions [] r text a mark b is all e spaces = absurd is
 over_conditions (condition ∷ []) r text a mark b is all e spaces =
@@ -361,19 +361,19 @@ keyword_from = record { slot_is = at_from; no_name = refl; begins = λ r c e. rw
 keyword_where : IsKeywordOf slot.Where 119 (codes "here")
 keyword_where = record { slot_is = at_where; no_name = refl; begins = λ r c e. rw (letter_no_spacing c 119 e refl, e) refl; fronts = λ text rest e. front_is (codes "where") text rest e; last = λ c. refl; whole = refl }
 
-over_which : (r : Reading) (by : NodeColumn) (a rest : List ℕ) → Keyword (keyword_of by) a → accept (before r slot.Which true) (a ++ rest) ≡ accept (before (record r { by = by }) slot.In false) rest
+over_which : (r : SubselectReading) (by : NodeColumn) (a rest : List ℕ) → Keyword (keyword_of by) a → accept (before r slot.Which true) (a ++ rest) ≡ accept (before (record r { by = by }) slot.In false) rest
 over_which r ExternalId a rest e = over_keyword slot.Which 101 (codes "xternal_id") keyword_external r a rest e
 over_which r NodeId a rest e = over_keyword slot.Which 110 (codes "ode_id") keyword_node r a rest e
 
 -- one piece after another
-onward : (from to : Reading) (text a rest : List ℕ) (value : Subselect) → text ≡ a ++ rest → accept from (a ++ rest) ≡ accept to rest → accept to rest ≡ Some value → accept from text ≡ Some value
+onward : (from to : SubselectReading) (text a rest : List ℕ) (value : Subselect) → text ≡ a ++ rest → accept from (a ++ rest) ≡ accept to rest → accept to rest ≡ Some value → accept from text ≡ Some value
 onward from to text a rest value e f g = ap (accept from) e ∙ (f ∙ g)
 
 gap_next : (text a rest : List ℕ) → text ≡ a ++ rest → Gap a → Stops text
 gap_next text a rest e gap = subst Stops (sym e) (gap_stops a rest gap)
 
 -- from `where` on
-over_where : (r : Reading) (conditions : List Condition) (text : List ℕ)
+over_where : (r : SubselectReading) (conditions : List Condition) (text : List ℕ)
     → (Gap ▸ Keyword (codes "where") ▸ Gap ▸ ConditionsOf conditions ▸ Spacing ▸ Exactly (codes ")") ▸ Spacing) text → accept (before r slot.Where false) text ≡ Some (made r conditions)
 over_where r conditions text (a, t1, e1, gap, (word, t2, e2, letters, (b, t3, e3, more, (others, t4, e4, says, (c, t5, e5, all, (mark, d, e6, is, last)))))) =
     let rest : t3 ≡ others ++ (c ++ (mark ++ d)) = e4 ∙ ap (λ x. others ++ x) (e5 ∙ ap (λ x. c ++ x) e6) in
@@ -383,7 +383,7 @@ over_where r conditions text (a, t1, e1, gap, (word, t2, e2, letters, (b, t3, e3
     (ap (accept (before r slot.Tested true)) rest ∙ over_conditions conditions r others c mark d says all is last)))
 
 -- from `select` on
-over_select : (r : Reading) (column table : List ℕ) (conditions : List Condition) (text : List ℕ)
+over_select : (r : SubselectReading) (column table : List ℕ) (conditions : List Condition) (text : List ℕ)
     → (Spacing ▸ Keyword (codes "select") ▸ Gap ▸ Name column ▸ Gap ▸ Keyword (codes "from") ▸ Gap ▸ Name table
     ▸ Gap ▸ Keyword (codes "where") ▸ Gap ▸ ConditionsOf conditions ▸ Spacing ▸ Exactly (codes ")") ▸ Spacing) text
     → accept (before r slot.Select true) text ≡ Some (made (record r { column = column; table = table }) conditions)

@@ -46,18 +46,18 @@ abbrev pub IsBareText : List ℕ → List ℕ → Type 0
 IsBareText text value = (text ≡ value) × (is_bare value ≡ true) × (value ≢ codes "NULL")
 
 -- what a column is compared with
-abbrev pub ValueOf : Operand → Form
-ValueOf NodeId = Exactly (codes ":NODE_ID")
-ValueOf ExternalId = Exactly (codes ":EXTERNAL_ID")
-ValueOf NodeGroupId = Exactly (codes ":NODE_GROUP_ID")
-ValueOf Null = Exactly (codes "NULL")
-ValueOf (Text value) = λ text. IsBareText text value ⊎ (text ≡ quoted value)
+abbrev pub OperandOf : Operand → Form
+OperandOf NodeId = Exactly (codes ":NODE_ID")
+OperandOf ExternalId = Exactly (codes ":EXTERNAL_ID")
+OperandOf NodeGroupId = Exactly (codes ":NODE_GROUP_ID")
+OperandOf Null = Exactly (codes "NULL")
+OperandOf (Text value) = λ text. IsBareText text value ⊎ (text ≡ quoted value)
 
 -- a name, a sign and a value, with any number of spaces round each
 abbrev pub TestOf : ColumnTest → Form
 TestOf test =
     Spaces ▸ NameOf test.old test.name ▸ Spaces ▸ SignOf test.differs ▸ Spaces
-    ▸ ValueOf test.operand ▸ Spaces
+    ▸ OperandOf test.operand ▸ Spaces
 
 -- what joins two tests
 abbrev pub IsJoint : Form
@@ -70,9 +70,9 @@ TestsOf (test ∷ []) = TestOf test
 TestsOf (test ∷ next ∷ tests) = TestOf test ▸ IsJoint ▸ TestsOf (next ∷ tests)
 
 -- one line feed may stand at the end
-abbrev pub IsEnd : Form
-IsEnd text = (text ≡ []) ⊎ (text ≡ 10 ∷ [])
+abbrev pub OptionalFeed : Form
+OptionalFeed text = (text ≡ []) ⊎ (text ≡ 10 ∷ [])
 
 -- the text is an expression that says these tests
 abbrev pub IsColumnForm : List ℕ → List ColumnTest → Type 0
-IsColumnForm text tests = (TestsOf tests ▸ IsEnd) text
+IsColumnForm text tests = (TestsOf tests ▸ OptionalFeed) text

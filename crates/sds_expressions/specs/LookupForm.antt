@@ -36,11 +36,11 @@ abbrev pub IsOrder : List LookupKey → Type 0
 IsOrder keys = (key : LookupKey) → count_of key keys ≡ 1
 
 -- the lines of the keys, joined by line feeds (10)
-abbrev pub lines_of : Lookup → List LookupKey → List ℕ
-lines_of lookup [] = []
-lines_of lookup (key ∷ []) = key_text key ++ name_for key lookup
-lines_of lookup (key ∷ next ∷ keys) =
-    key_text key ++ (name_for key lookup ++ 10 ∷ lines_of lookup (next ∷ keys))
+abbrev pub lookup_lines : Lookup → List LookupKey → List ℕ
+lookup_lines lookup [] = []
+lookup_lines lookup (key ∷ []) = key_text key ++ name_for key lookup
+lookup_lines lookup (key ∷ next ∷ keys) =
+    key_text key ++ (name_for key lookup ++ 10 ∷ lookup_lines lookup (next ∷ keys))
 
 -- the names of the lookup are names
 abbrev pub HasNames : Lookup → Type 0
@@ -49,4 +49,4 @@ HasNames lookup = (key : LookupKey) → is_name_text (name_for key lookup) ≡ t
 -- The text is an expression that says this lookup. One line feed may stand at the end.
 abbrev pub IsLookupForm : List ℕ → Lookup → Type 0
 IsLookupForm text lookup = HasNames lookup × (keys : List LookupKey) × IsOrder keys
-    × ((text ≡ lines_of lookup keys) ⊎ (text ≡ lines_of lookup keys ++ 10 ∷ []))
+    × ((text ≡ lookup_lines lookup keys) ⊎ (text ≡ lookup_lines lookup keys ++ 10 ∷ []))

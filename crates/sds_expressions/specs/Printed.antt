@@ -11,7 +11,7 @@ use Rattle.sds_types.specs.declared.subselect.Subselect.{Subselect}
 use Rattle.sds_value.specs.Names.{is_name_text}
 use Rattle.sds_expressions.specs.declared.lookup_router.LookupKey.TheVariants.{Table, Column, LookupColumn, ExternalId}
 use Rattle.sds_expressions.specs.ColumnForm.{begins_old, quoted}
-use Rattle.sds_expressions.specs.LookupForm.{lines_of}
+use Rattle.sds_expressions.specs.LookupForm.{lookup_lines}
 use Rattle.sds_expressions.specs.SubselectForm.{keyword_of}
 
 -- The column of a test has a name. One that begins with `OLD_` can be asked for its old value
@@ -50,7 +50,7 @@ text_of_tests (test ∷ next ∷ tests) =
 
 -- the four lines, in the order of the lookup
 abbrev pub text_of_lookup : Lookup → List ℕ
-text_of_lookup lookup = lines_of lookup (Table ∷ Column ∷ LookupColumn ∷ ExternalId ∷ [])
+text_of_lookup lookup = lookup_lines lookup (Table ∷ Column ∷ LookupColumn ∷ ExternalId ∷ [])
 
 -- the columns of a condition have names, and so have those of a choice and its table
 abbrev pub IsCompared : Compared → Type 0

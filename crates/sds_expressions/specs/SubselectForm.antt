@@ -32,13 +32,13 @@ keyword_of ExternalId = codes "external_id"
 keyword_of NodeId = codes "node_id"
 
 -- what a column is compared with: a column of the routed row, or a text between quotes
-abbrev pub ValueOf : Compared → Form
-ValueOf (Routed name) = Exactly (codes ":") ▸ Spacing ▸ Name name
-ValueOf (Text text) = Exactly (quoted text)
+abbrev pub ComparedOf : Compared → Form
+ComparedOf (Routed name) = Exactly (codes ":") ▸ Spacing ▸ Name name
+ComparedOf (Text text) = Exactly (quoted text)
 
 abbrev pub ConditionOf : Condition → Form
 ConditionOf condition =
-    Name condition.column ▸ Spacing ▸ Exactly (codes "=") ▸ Spacing ▸ ValueOf condition.value
+    Name condition.column ▸ Spacing ▸ Exactly (codes "=") ▸ Spacing ▸ ComparedOf condition.value
 
 -- Between a value and the next keyword. A quoted text needs no spacing after it.
 abbrev pub SpacingAfter : Compared → Form

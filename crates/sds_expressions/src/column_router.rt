@@ -7,7 +7,7 @@ ghost use Rattle.sds_expressions.specs.ColumnForm.{IsColumnForm, begins_old, is_
 ghost use Rattle.sds_expressions.specs.ColumnRouter as wanted;
 
 use crate::automaton::{Automaton, read_text};
-use crate::letters::{begins, characters_of, is_name_character, one, text_of};
+use crate::letters::{LONGEST_NAME, begins, characters_of, is_name_character, one, text_of};
 use sds_base::{List, NoMemory};
 use sds_types::{ColumnTest, Operand};
 use std::alloc::Global;
@@ -24,7 +24,7 @@ const NULL: [char; 4] = ['N', 'U', 'L', 'L'];
 
 /// Where the reading of a `column` router's expression stands.
 #[derive(Clone, Copy, Debug)]
-pub enum Part {
+pub enum ColumnPart {
     /// Before a test.
     Before,
     /// After a line feed, which may be the end.
@@ -53,12 +53,12 @@ pub enum Part {
 
 /// What is read of a `column` router's expression so far.
 #[derive(Debug, Drop)]
-pub struct Reading {
+pub struct ColumnReading {
     pub tests: List<ColumnTest>,
     pub name: List<char>,
     pub differs: bool,
     pub text: List<char>,
-    pub part: Part,
+    pub part: ColumnPart,
 }
 
 /// The tests of a `column` router's expression, or the place of the first character, from 0, from
@@ -71,56 +71,56 @@ pub fn column_tests(alloc: Global, text: &str) -> Result<Result<List<ColumnTest>
     read_text(alloc, beginning(alloc), characters.as_slice())
 }
 
-impl Automaton<List<ColumnTest>> for Reading {
+impl Automaton<List<ColumnTest>> for ColumnReading {
     ghost step = { wanted.step };
 
     ghost finish = { wanted.finish };
 
     fn read(&mut self, alloc: Global, c: char) -> Result<bool, NoMemory> {
         match self.part {
-            Part::Before | Part::Fresh => step_before(alloc, self, c),
-            Part::Name => step_name(alloc, self, c),
-            Part::Named => step_named(alloc, self, c),
-            Part::Bang => step_bang(alloc, self, c),
-            Part::Sign => step_sign(alloc, self, c),
-            Part::Colon => step_colon(alloc, self, c),
-            Part::Bare => step_bare(alloc, self, c),
-            Part::Quoted => step_quoted(alloc, self, c),
-            Part::Quote => step_quote(alloc, self, c),
-            Part::After => step_after(alloc, self, c),
-            Part::Letter => step_letter(alloc, self, c),
-            Part::Joined => step_joined(alloc, self, c),
+            ColumnPart::Before | ColumnPart::Fresh => step_before(alloc, self, c),
+            ColumnPart::Name => step_name(alloc, self, c),
+            ColumnPart::Named => step_named(alloc, self, c),
+            ColumnPart::Bang => step_bang(alloc, self, c),
+            ColumnPart::Sign => step_sign(alloc, self, c),
+            ColumnPart::Colon => step_colon(alloc, self, c),
+            ColumnPart::Bare => step_bare(alloc, self, c),
+            ColumnPart::Quoted => step_quoted(alloc, self, c),
+            ColumnPart::Quote => step_quote(alloc, self, c),
+            ColumnPart::After => step_after(alloc, self, c),
+            ColumnPart::Letter => step_letter(alloc, self, c),
+            ColumnPart::Joined => step_joined(alloc, self, c),
         }
     }
 
     fn end(self, alloc: Global) -> Result<Option<List<ColumnTest>>, NoMemory> {
         let text = self.text.inner().as_slice();
         let operand = match self.part {
-            Part::After | Part::Fresh => return Ok(Some(self.tests)),
-            Part::Colon => operand_named(text),
-            Part::Bare => Some(bare_operand(alloc, text)?),
-            Part::Quote => Some(Operand::Text(text_of(alloc, text)?)),
+            ColumnPart::After | ColumnPart::Fresh => return Ok(Some(self.tests)),
+            ColumnPart::Colon => operand_named(text),
+            ColumnPart::Bare => Some(bare_operand(alloc, text)?),
+            ColumnPart::Quote => Some(Operand::Text(text_of(alloc, text)?)),
             _ => None,
         };
         last_test(alloc, self, operand)
     }
 }
 
-fn beginning(alloc: Global) -> Reading
+fn beginning(alloc: Global) -> ColumnReading
     ensures { result ≡ wanted.beginning }
 {
-    Reading {
+    ColumnReading {
         tests: List::new(alloc),
         name: List::new(alloc),
         differs: false,
         text: List::new(alloc),
-        part: Part::Before,
+        part: ColumnPart::Before,
     }
 }
 
 fn last_test(
     alloc: Global,
-    reading: Reading,
+    reading: ColumnReading,
     operand: Option<Operand>,
 ) -> Result<Option<List<ColumnTest>>, NoMemory>
     ensures { IfOk result (λ tests. tests ≡ wanted.tests_ended reading operand) }
@@ -136,37 +136,37 @@ fn last_test(
     }
 }
 
-fn step_before(alloc: Global, reading: &mut Reading, c: char) -> Result<bool, NoMemory>
+fn step_before(alloc: Global, reading: &mut ColumnReading, c: char) -> Result<bool, NoMemory>
     ensures { LeadsTo result reading.new (wanted.step_before reading.old c) }
 {
     if c == ' ' {
-        reading.part = Part::Before;
+        reading.part = ColumnPart::Before;
         return Ok(true);
     }
     if !is_name_character(c) {
         return Ok(false);
     }
     reading.name = one(alloc, c)?;
-    reading.part = Part::Name;
+    reading.part = ColumnPart::Name;
     Ok(true)
 }
 
-fn step_named(_alloc: Global, reading: &mut Reading, c: char) -> Result<bool, NoMemory>
+fn step_named(_alloc: Global, reading: &mut ColumnReading, c: char) -> Result<bool, NoMemory>
     ensures { LeadsTo result reading.new (wanted.step_named reading.old c) }
 {
     match c {
-        ' ' => reading.part = Part::Named,
+        ' ' => reading.part = ColumnPart::Named,
         '=' => {
             reading.differs = false;
-            reading.part = Part::Sign;
+            reading.part = ColumnPart::Sign;
         }
-        '!' => reading.part = Part::Bang,
+        '!' => reading.part = ColumnPart::Bang,
         _ => return Ok(false),
     }
     Ok(true)
 }
 
-fn step_name(alloc: Global, reading: &mut Reading, c: char) -> Result<bool, NoMemory>
+fn step_name(alloc: Global, reading: &mut ColumnReading, c: char) -> Result<bool, NoMemory>
     ensures { LeadsTo result reading.new (wanted.step_name reading.old c) }
 {
     if !is_name_character(c) {
@@ -179,18 +179,18 @@ fn step_name(alloc: Global, reading: &mut Reading, c: char) -> Result<bool, NoMe
     Ok(is_short(reading.name.inner().as_slice()))
 }
 
-fn step_bang(_alloc: Global, reading: &mut Reading, c: char) -> Result<bool, NoMemory>
+fn step_bang(_alloc: Global, reading: &mut ColumnReading, c: char) -> Result<bool, NoMemory>
     ensures { LeadsTo result reading.new (wanted.step_bang reading.old c) }
 {
     if c != '=' {
         return Ok(false);
     }
     reading.differs = true;
-    reading.part = Part::Sign;
+    reading.part = ColumnPart::Sign;
     Ok(true)
 }
 
-fn step_sign(alloc: Global, reading: &mut Reading, c: char) -> Result<bool, NoMemory>
+fn step_sign(alloc: Global, reading: &mut ColumnReading, c: char) -> Result<bool, NoMemory>
     ensures { LeadsTo result reading.new (wanted.step_sign reading.old c) }
 {
     if c == ' ' {
@@ -198,23 +198,23 @@ fn step_sign(alloc: Global, reading: &mut Reading, c: char) -> Result<bool, NoMe
     }
     if c == '\'' {
         reading.text = List::new(alloc);
-        reading.part = Part::Quoted;
+        reading.part = ColumnPart::Quoted;
         return Ok(true);
     }
     if c == ':' {
         reading.text = List::new(alloc);
-        reading.part = Part::Colon;
+        reading.part = ColumnPart::Colon;
         return Ok(true);
     }
     if !is_bare_character(c) {
         return Ok(false);
     }
     reading.text = one(alloc, c)?;
-    reading.part = Part::Bare;
+    reading.part = ColumnPart::Bare;
     Ok(true)
 }
 
-fn step_colon(alloc: Global, reading: &mut Reading, c: char) -> Result<bool, NoMemory>
+fn step_colon(alloc: Global, reading: &mut ColumnReading, c: char) -> Result<bool, NoMemory>
     ensures { LeadsTo result reading.new (wanted.step_colon reading.old c) }
 {
     let mut longer = List::of(reading.text.inner().as_slice().to_vec(alloc)?);
@@ -227,7 +227,7 @@ fn step_colon(alloc: Global, reading: &mut Reading, c: char) -> Result<bool, NoM
     ended(alloc, reading, c, operand)
 }
 
-fn step_bare(alloc: Global, reading: &mut Reading, c: char) -> Result<bool, NoMemory>
+fn step_bare(alloc: Global, reading: &mut ColumnReading, c: char) -> Result<bool, NoMemory>
     ensures { LeadsTo result reading.new (wanted.step_bare reading.old c) }
 {
     if is_bare_character(c) {
@@ -238,65 +238,65 @@ fn step_bare(alloc: Global, reading: &mut Reading, c: char) -> Result<bool, NoMe
     ended(alloc, reading, c, Some(operand))
 }
 
-fn step_quoted(_alloc: Global, reading: &mut Reading, c: char) -> Result<bool, NoMemory>
+fn step_quoted(_alloc: Global, reading: &mut ColumnReading, c: char) -> Result<bool, NoMemory>
     ensures { LeadsTo result reading.new (wanted.step_quoted reading.old c) }
 {
     if c == '\'' {
-        reading.part = Part::Quote;
+        reading.part = ColumnPart::Quote;
         return Ok(true);
     }
     reading.text.push(c)?;
     Ok(true)
 }
 
-fn step_quote(alloc: Global, reading: &mut Reading, c: char) -> Result<bool, NoMemory>
+fn step_quote(alloc: Global, reading: &mut ColumnReading, c: char) -> Result<bool, NoMemory>
     ensures { LeadsTo result reading.new (wanted.step_quote reading.old c) }
 {
     if c == '\'' {
         reading.text.push(c)?;
-        reading.part = Part::Quoted;
+        reading.part = ColumnPart::Quoted;
         return Ok(true);
     }
     let text = text_of(alloc, reading.text.inner().as_slice())?;
     ended(alloc, reading, c, Some(Operand::Text(text)))
 }
 
-fn step_after(_alloc: Global, reading: &mut Reading, c: char) -> Result<bool, NoMemory>
+fn step_after(_alloc: Global, reading: &mut ColumnReading, c: char) -> Result<bool, NoMemory>
     ensures { LeadsTo result reading.new (wanted.step_after reading.old c) }
 {
     match c {
         ' ' => {}
-        '\n' => reading.part = Part::Fresh,
-        'o' => reading.part = Part::Letter,
+        '\n' => reading.part = ColumnPart::Fresh,
+        'o' => reading.part = ColumnPart::Letter,
         _ => return Ok(false),
     }
     Ok(true)
 }
 
-fn step_letter(_alloc: Global, reading: &mut Reading, c: char) -> Result<bool, NoMemory>
+fn step_letter(_alloc: Global, reading: &mut ColumnReading, c: char) -> Result<bool, NoMemory>
     ensures { LeadsTo result reading.new (wanted.step_letter reading.old c) }
 {
     if c != 'r' {
         return Ok(false);
     }
-    reading.part = Part::Joined;
+    reading.part = ColumnPart::Joined;
     Ok(true)
 }
 
-fn step_joined(_alloc: Global, reading: &mut Reading, c: char) -> Result<bool, NoMemory>
+fn step_joined(_alloc: Global, reading: &mut ColumnReading, c: char) -> Result<bool, NoMemory>
     ensures { LeadsTo result reading.new (wanted.step_joined reading.old c) }
 {
     if c != ' ' {
         return Ok(false);
     }
-    reading.part = Part::Before;
+    reading.part = ColumnPart::Before;
     Ok(true)
 }
 
 /// What a value leads to, after which a space or a line feed stands.
 fn ended(
     alloc: Global,
-    reading: &mut Reading,
+    reading: &mut ColumnReading,
     c: char,
     operand: Option<Operand>,
 ) -> Result<bool, NoMemory>
@@ -306,8 +306,8 @@ fn ended(
         return Ok(false);
     };
     let next = match c {
-        ' ' => Part::After,
-        '\n' => Part::Fresh,
+        ' ' => ColumnPart::After,
+        '\n' => ColumnPart::Fresh,
         _ => return Ok(false),
     };
     let test = test_of(alloc, reading, operand)?;
@@ -316,7 +316,7 @@ fn ended(
     Ok(true)
 }
 
-fn test_of(alloc: Global, reading: &Reading, operand: Operand) -> Result<ColumnTest, NoMemory>
+fn test_of(alloc: Global, reading: &ColumnReading, operand: Operand) -> Result<ColumnTest, NoMemory>
     ensures { IfOk result (λ test. test ≡ wanted.test_of reading.now operand) }
 {
     let name = reading.name.inner().as_slice();
@@ -346,7 +346,7 @@ fn column_name(name: &[char]) -> &[char]
 fn is_short(name: &[char]) -> bool
     ensures { result ≡ wanted.is_short name.now }
 {
-    column_name(name).len() <= 50
+    column_name(name).len() <= LONGEST_NAME
 }
 
 fn is_whole(name: &[char]) -> bool

@@ -7,6 +7,9 @@ ghost use Rattle.sds_value.specs.Names as names;
 use sds_base::{List, NoMemory, Txt};
 use std::alloc::Global;
 
+/// The most characters that a name has.
+pub const LONGEST_NAME: usize = 50;
+
 /// The characters of a text.
 pub fn characters_of(alloc: Global, text: &str) -> Result<Vec<char>, NoMemory>
     ensures { IfOk result (λ characters. characters.items ≡ chars text.now) }

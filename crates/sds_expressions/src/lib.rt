@@ -1,5 +1,4 @@
-//! The texts inside a configuration: numbers, pieces of texts, expressions of routers and
-//! transforms.
+//! The texts inside a configuration: numbers, pieces, expressions of routers and transforms.
 #![tactic(auto)]
 
 mod automaton;

@@ -8,7 +8,7 @@ ghost use Rattle.sds_expressions.specs.LookupForm.{IsLookupForm, key_text};
 ghost use Rattle.sds_expressions.specs.LookupRouter as wanted;
 
 use crate::automaton::{Automaton, read_text};
-use crate::letters::{begins, characters_of, is_name_character, text_of};
+use crate::letters::{LONGEST_NAME, begins, characters_of, is_name_character, text_of};
 use sds_base::{List, NoMemory, Txt};
 use sds_types::Lookup;
 use std::alloc::Global;
@@ -39,7 +39,7 @@ pub enum LookupKey {
 /// Where the reading of a `lookuptable` router's expression stands: in a key, in a name, or after
 /// the last line.
 #[derive(Clone, Copy, Debug)]
-pub enum Part {
+pub enum LookupPart {
     Key,
     Name,
     Ended,
@@ -47,14 +47,14 @@ pub enum Part {
 
 /// What is read of a `lookuptable` router's expression so far.
 #[derive(Debug, Drop)]
-pub struct Reading {
+pub struct LookupReading {
     pub table: Option<Txt>,
     pub column: Option<Txt>,
     pub lookup_column: Option<Txt>,
     pub external_id: Option<Txt>,
     pub key: LookupKey,
     pub word: List<char>,
-    pub part: Part,
+    pub part: LookupPart,
 }
 
 /// The lookup of a `lookuptable` router's expression, or the place of the first character, from 0,
@@ -67,43 +67,43 @@ pub fn lookup_text(alloc: Global, text: &str) -> Result<Result<Lookup, usize>, N
     read_text(alloc, beginning(alloc), characters.as_slice())
 }
 
-impl Automaton<Lookup> for Reading {
+impl Automaton<Lookup> for LookupReading {
     ghost step = { wanted.step };
 
     ghost finish = { wanted.finish };
 
     fn read(&mut self, alloc: Global, c: char) -> Result<bool, NoMemory> {
         match self.part {
-            Part::Key => step_key(alloc, self, c),
-            Part::Name => step_name(alloc, self, c),
-            Part::Ended => Ok(false),
+            LookupPart::Key => step_key(alloc, self, c),
+            LookupPart::Name => step_name(alloc, self, c),
+            LookupPart::Ended => Ok(false),
         }
     }
 
     fn end(self, alloc: Global) -> Result<Option<Lookup>, NoMemory> {
         match self.part {
-            Part::Key => Ok(None),
-            Part::Name => last_line(alloc, self),
-            Part::Ended => Ok(lookup_of(self)),
+            LookupPart::Key => Ok(None),
+            LookupPart::Name => last_line(alloc, self),
+            LookupPart::Ended => Ok(lookup_of(self)),
         }
     }
 }
 
-fn beginning(alloc: Global) -> Reading
+fn beginning(alloc: Global) -> LookupReading
     ensures { result ≡ wanted.beginning }
 {
-    Reading {
+    LookupReading {
         table: None,
         column: None,
         lookup_column: None,
         external_id: None,
         key: LookupKey::Table,
         word: List::new(alloc),
-        part: Part::Key,
+        part: LookupPart::Key,
     }
 }
 
-fn last_line(alloc: Global, mut reading: Reading) -> Result<Option<Lookup>, NoMemory>
+fn last_line(alloc: Global, mut reading: LookupReading) -> Result<Option<Lookup>, NoMemory>
     ensures { IfOk result (λ lookup. lookup ≡ wanted.last_line reading reading.word) }
 {
     if reading.word.inner().is_empty() {
@@ -115,7 +115,7 @@ fn last_line(alloc: Global, mut reading: Reading) -> Result<Option<Lookup>, NoMe
     Ok(lookup_of(reading))
 }
 
-fn lookup_of(reading: Reading) -> Option<Lookup>
+fn lookup_of(reading: LookupReading) -> Option<Lookup>
     ensures { result ≡ wanted.lookup_of reading }
 {
     match (
@@ -134,7 +134,7 @@ fn lookup_of(reading: Reading) -> Option<Lookup>
     }
 }
 
-fn step_key(alloc: Global, reading: &mut Reading, c: char) -> Result<bool, NoMemory>
+fn step_key(alloc: Global, reading: &mut LookupReading, c: char) -> Result<bool, NoMemory>
     ensures { LeadsTo result reading.new (wanted.step_key reading.old c) }
 {
     let mut word = List::of(reading.word.inner().as_slice().to_vec(alloc)?);
@@ -143,14 +143,14 @@ fn step_key(alloc: Global, reading: &mut Reading, c: char) -> Result<bool, NoMem
         Some(key) => {
             reading.word = List::new(alloc);
             reading.key = key;
-            reading.part = Part::Name;
+            reading.part = LookupPart::Name;
             Ok(true)
         }
         None => Ok(longer(reading, word)),
     }
 }
 
-fn longer(reading: &mut Reading, word: List<char>) -> bool
+fn longer(reading: &mut LookupReading, word: List<char>) -> bool
     ensures { (if result then Some reading.new else None) ≡ wanted.key_read reading.old word None }
 {
     let goes = begins_any(reading, word.inner().as_slice());
@@ -158,11 +158,11 @@ fn longer(reading: &mut Reading, word: List<char>) -> bool
     goes
 }
 
-fn step_name(alloc: Global, reading: &mut Reading, c: char) -> Result<bool, NoMemory>
+fn step_name(alloc: Global, reading: &mut LookupReading, c: char) -> Result<bool, NoMemory>
     ensures { LeadsTo result reading.new (wanted.step_name reading.old c) }
 {
     if is_name_character(c) {
-        let goes = reading.word.inner().len() < 50;
+        let goes = reading.word.inner().len() < LONGEST_NAME;
         reading.word.push(c)?;
         return Ok(goes);
     }
@@ -177,7 +177,7 @@ fn step_name(alloc: Global, reading: &mut Reading, c: char) -> Result<bool, NoMe
     Ok(true)
 }
 
-fn part_after(reading: &Reading) -> Part
+fn part_after(reading: &LookupReading) -> LookupPart
     ensures { result ≡ wanted.part_after (wanted.lookup_of reading.now) }
 {
     match (
@@ -186,12 +186,12 @@ fn part_after(reading: &Reading) -> Part
         &reading.lookup_column,
         &reading.external_id,
     ) {
-        (Some(_), Some(_), Some(_), Some(_)) => Part::Ended,
-        _ => Part::Key,
+        (Some(_), Some(_), Some(_), Some(_)) => LookupPart::Ended,
+        _ => LookupPart::Key,
     }
 }
 
-fn put_line(reading: &mut Reading, key: LookupKey, name: Txt)
+fn put_line(reading: &mut LookupReading, key: LookupKey, name: Txt)
     ensures { reading.new ≡ wanted.with_line key reading.old name }
 {
     match key {
@@ -202,7 +202,7 @@ fn put_line(reading: &mut Reading, key: LookupKey, name: Txt)
     }
 }
 
-fn key_of(reading: &Reading, word: &[char]) -> Option<LookupKey>
+fn key_of(reading: &LookupReading, word: &[char]) -> Option<LookupKey>
     ensures { result ≡ wanted.key_of reading.now word.now }
 {
     if is_key(reading, word, LookupKey::Table) {
@@ -220,7 +220,7 @@ fn key_of(reading: &Reading, word: &[char]) -> Option<LookupKey>
     None
 }
 
-fn begins_any(reading: &Reading, word: &[char]) -> bool
+fn begins_any(reading: &LookupReading, word: &[char]) -> bool
     ensures { result ≡ wanted.begins reading.now word.now }
 {
     begins_key(reading, word, LookupKey::Table)
@@ -229,19 +229,19 @@ fn begins_any(reading: &Reading, word: &[char]) -> bool
         || begins_key(reading, word, LookupKey::ExternalId)
 }
 
-fn is_key(reading: &Reading, word: &[char], key: LookupKey) -> bool
+fn is_key(reading: &LookupReading, word: &[char], key: LookupKey) -> bool
     ensures { result ≡ wanted.is_key reading.now word.now key }
 {
     is_open(reading, key) && is_text(word, key)
 }
 
-fn begins_key(reading: &Reading, word: &[char], key: LookupKey) -> bool
+fn begins_key(reading: &LookupReading, word: &[char], key: LookupKey) -> bool
     ensures { result ≡ wanted.begins_key reading.now word.now key }
 {
     is_open(reading, key) && begins_text(word, key)
 }
 
-fn is_open(reading: &Reading, key: LookupKey) -> bool
+fn is_open(reading: &LookupReading, key: LookupKey) -> bool
     ensures { result ≡ wanted.is_open reading.now key }
 {
     match key {

@@ -7,7 +7,7 @@ ghost use Rattle.sds_expressions.specs.SubselectForm.{IsSubselectForm, is_spacin
 ghost use Rattle.sds_expressions.specs.SubselectRouter as wanted;
 
 use crate::automaton::{Automaton, read_text};
-use crate::letters::{begins, characters_of, is_name_character, one, text_of};
+use crate::letters::{LONGEST_NAME, begins, characters_of, is_name_character, one, text_of};
 use sds_base::{List, NoMemory};
 use sds_types::{Compared, Condition, NodeColumn, Subselect};
 use std::alloc::Global;
@@ -31,7 +31,7 @@ const AND: [char; 3] = ['a', 'n', 'd'];
 /// Where the reading of a `subselect` router's expression stands: at a keyword, a sign, a name or a
 /// value.
 #[derive(Clone, Copy, Debug)]
-pub enum Slot {
+pub enum SubselectSlot {
     /// `c`
     Prefix,
     /// `.`
@@ -72,7 +72,7 @@ pub enum Slot {
 
 /// What is read of a `subselect` router's expression so far.
 #[derive(Debug, Drop)]
-pub struct Reading {
+pub struct SubselectReading {
     pub by: NodeColumn,
     pub column: List<char>,
     pub table: List<char>,
@@ -82,7 +82,7 @@ pub struct Reading {
     pub word: List<char>,
     /// Whether a word may begin here.
     pub spaced: bool,
-    pub slot: Slot,
+    pub slot: SubselectSlot,
 }
 
 /// The choice of a `subselect` router's expression, or the place of the first character, from 0,
@@ -95,22 +95,22 @@ pub fn subselect_text(alloc: Global, text: &str) -> Result<Result<Subselect, usi
     read_text(alloc, beginning(alloc), characters.as_slice())
 }
 
-impl Automaton<Subselect> for Reading {
+impl Automaton<Subselect> for SubselectReading {
     ghost step = { wanted.step };
 
     ghost finish = { wanted.finish };
 
     fn read(&mut self, alloc: Global, c: char) -> Result<bool, NoMemory> {
         match self.slot {
-            Slot::Quoted => in_quotes(alloc, self, c),
-            Slot::Quote => after_quote(alloc, self, c),
+            SubselectSlot::Quoted => in_quotes(alloc, self, c),
+            SubselectSlot::Quote => after_quote(alloc, self, c),
             _ => outside(alloc, self, c),
         }
     }
 
     fn end(self, alloc: Global) -> Result<Option<Subselect>, NoMemory> {
         match self.slot {
-            Slot::Close => Ok(Some(Subselect {
+            SubselectSlot::Close => Ok(Some(Subselect {
                 by: self.by,
                 column: text_of(alloc, self.column.inner().as_slice())?,
                 table: text_of(alloc, self.table.inner().as_slice())?,
@@ -121,10 +121,10 @@ impl Automaton<Subselect> for Reading {
     }
 }
 
-fn beginning(alloc: Global) -> Reading
+fn beginning(alloc: Global) -> SubselectReading
     ensures { result ≡ wanted.beginning }
 {
-    Reading {
+    SubselectReading {
         by: NodeColumn::ExternalId,
         column: List::new(alloc),
         table: List::new(alloc),
@@ -132,11 +132,11 @@ fn beginning(alloc: Global) -> Reading
         conditions: List::new(alloc),
         word: List::new(alloc),
         spaced: true,
-        slot: Slot::Prefix,
+        slot: SubselectSlot::Prefix,
     }
 }
 
-fn outside(alloc: Global, reading: &mut Reading, c: char) -> Result<bool, NoMemory>
+fn outside(alloc: Global, reading: &mut SubselectReading, c: char) -> Result<bool, NoMemory>
     ensures { LeadsTo result reading.new (wanted.outside reading.old.word reading.old c) }
 {
     if reading.word.inner().is_empty() {
@@ -148,23 +148,23 @@ fn outside(alloc: Global, reading: &mut Reading, c: char) -> Result<bool, NoMemo
     in_keyword(alloc, reading, c)
 }
 
-fn in_quotes(_alloc: Global, reading: &mut Reading, c: char) -> Result<bool, NoMemory>
+fn in_quotes(_alloc: Global, reading: &mut SubselectReading, c: char) -> Result<bool, NoMemory>
     ensures { LeadsTo result reading.new (wanted.in_quotes reading.old c) }
 {
     if c == '\'' {
-        reading.slot = Slot::Quote;
+        reading.slot = SubselectSlot::Quote;
         return Ok(true);
     }
     reading.word.push(c)?;
     Ok(true)
 }
 
-fn after_quote(alloc: Global, reading: &mut Reading, c: char) -> Result<bool, NoMemory>
+fn after_quote(alloc: Global, reading: &mut SubselectReading, c: char) -> Result<bool, NoMemory>
     ensures { LeadsTo result reading.new (wanted.after_quote reading.old c) }
 {
     if c == '\'' {
         reading.word.push(c)?;
-        reading.slot = Slot::Quoted;
+        reading.slot = SubselectSlot::Quoted;
         return Ok(true);
     }
     let text = text_of(alloc, reading.word.inner().as_slice())?;
@@ -172,11 +172,11 @@ fn after_quote(alloc: Global, reading: &mut Reading, c: char) -> Result<bool, No
     fresh(alloc, reading, c)
 }
 
-fn in_name(alloc: Global, reading: &mut Reading, c: char) -> Result<bool, NoMemory>
+fn in_name(alloc: Global, reading: &mut SubselectReading, c: char) -> Result<bool, NoMemory>
     ensures { LeadsTo result reading.new (wanted.in_name reading.old c) }
 {
     if is_name_character(c) {
-        let goes = reading.word.inner().len() < 50;
+        let goes = reading.word.inner().len() < LONGEST_NAME;
         reading.word.push(c)?;
         return Ok(goes);
     }
@@ -184,7 +184,7 @@ fn in_name(alloc: Global, reading: &mut Reading, c: char) -> Result<bool, NoMemo
     fresh(alloc, reading, c)
 }
 
-fn in_keyword(alloc: Global, reading: &mut Reading, c: char) -> Result<bool, NoMemory>
+fn in_keyword(alloc: Global, reading: &mut SubselectReading, c: char) -> Result<bool, NoMemory>
     ensures { LeadsTo result reading.new (wanted.in_keyword reading.old c) }
 {
     let mut word = List::of(reading.word.inner().as_slice().to_vec(alloc)?);
@@ -200,23 +200,32 @@ fn in_keyword(alloc: Global, reading: &mut Reading, c: char) -> Result<bool, NoM
     fresh(alloc, reading, c)
 }
 
-fn fresh(alloc: Global, reading: &mut Reading, c: char) -> Result<bool, NoMemory>
+fn fresh(alloc: Global, reading: &mut SubselectReading, c: char) -> Result<bool, NoMemory>
     ensures { LeadsTo result reading.new (wanted.fresh reading.old c) }
 {
     match reading.slot {
-        Slot::Dot => Ok(sign(alloc, reading, c, '.', Slot::Which)),
-        Slot::Open => Ok(sign(alloc, reading, c, '(', Slot::Select)),
-        Slot::Equals => Ok(sign(alloc, reading, c, '=', Slot::Value)),
-        Slot::Value => before_value(alloc, reading, c),
-        Slot::Column | Slot::Table | Slot::Tested | Slot::Routed => before_name(alloc, reading, c),
-        Slot::Next => before_next(alloc, reading, c),
-        Slot::Close => Ok(is_spacing(c)),
+        SubselectSlot::Dot => Ok(sign(alloc, reading, c, '.', SubselectSlot::Which)),
+        SubselectSlot::Open => Ok(sign(alloc, reading, c, '(', SubselectSlot::Select)),
+        SubselectSlot::Equals => Ok(sign(alloc, reading, c, '=', SubselectSlot::Value)),
+        SubselectSlot::Value => before_value(alloc, reading, c),
+        SubselectSlot::Column
+        | SubselectSlot::Table
+        | SubselectSlot::Tested
+        | SubselectSlot::Routed => before_name(alloc, reading, c),
+        SubselectSlot::Next => before_next(alloc, reading, c),
+        SubselectSlot::Close => Ok(is_spacing(c)),
         _ => before_keyword(alloc, reading, c),
     }
 }
 
 /// A sign, round which spacing may stand.
-fn sign(alloc: Global, reading: &mut Reading, c: char, mark: char, next: Slot) -> bool
+fn sign(
+    alloc: Global,
+    reading: &mut SubselectReading,
+    c: char,
+    mark: char,
+    next: SubselectSlot,
+) -> bool
     ensures { (if result then Some reading.new else None) ≡ wanted.sign mark next reading.old c }
 {
     if is_spacing(c) {
@@ -229,7 +238,7 @@ fn sign(alloc: Global, reading: &mut Reading, c: char, mark: char, next: Slot) -
     true
 }
 
-fn before_keyword(alloc: Global, reading: &mut Reading, c: char) -> Result<bool, NoMemory>
+fn before_keyword(alloc: Global, reading: &mut SubselectReading, c: char) -> Result<bool, NoMemory>
     ensures { LeadsTo result reading.new (wanted.before_keyword reading.old c) }
 {
     if is_spacing(c) {
@@ -244,7 +253,7 @@ fn before_keyword(alloc: Global, reading: &mut Reading, c: char) -> Result<bool,
     Ok(true)
 }
 
-fn before_name(alloc: Global, reading: &mut Reading, c: char) -> Result<bool, NoMemory>
+fn before_name(alloc: Global, reading: &mut SubselectReading, c: char) -> Result<bool, NoMemory>
     ensures { LeadsTo result reading.new (wanted.before_name reading.old c) }
 {
     if is_spacing(c) {
@@ -258,25 +267,25 @@ fn before_name(alloc: Global, reading: &mut Reading, c: char) -> Result<bool, No
     Ok(true)
 }
 
-fn before_next(alloc: Global, reading: &mut Reading, c: char) -> Result<bool, NoMemory>
+fn before_next(alloc: Global, reading: &mut SubselectReading, c: char) -> Result<bool, NoMemory>
     ensures { LeadsTo result reading.new (wanted.before_next reading.old c) }
 {
     if c == ')' {
-        put_slot(alloc, reading, Slot::Close, true);
+        put_slot(alloc, reading, SubselectSlot::Close, true);
         return Ok(true);
     }
     before_keyword(alloc, reading, c)
 }
 
-fn before_value(alloc: Global, reading: &mut Reading, c: char) -> Result<bool, NoMemory>
+fn before_value(alloc: Global, reading: &mut SubselectReading, c: char) -> Result<bool, NoMemory>
     ensures { LeadsTo result reading.new (wanted.before_value reading.old c) }
 {
     if is_spacing(c) {
         return Ok(true);
     }
     let next = match c {
-        ':' => Slot::Routed,
-        '\'' => Slot::Quoted,
+        ':' => SubselectSlot::Routed,
+        '\'' => SubselectSlot::Quoted,
         _ => return Ok(false),
     };
     put_slot(alloc, reading, next, true);
@@ -284,7 +293,7 @@ fn before_value(alloc: Global, reading: &mut Reading, c: char) -> Result<bool, N
 }
 
 /// Stands before a slot, where a word may begin at once or only after spacing.
-fn put_slot(alloc: Global, reading: &mut Reading, next: Slot, spaced: bool)
+fn put_slot(alloc: Global, reading: &mut SubselectReading, next: SubselectSlot, spaced: bool)
     ensures { reading.new ≡ wanted.moved reading.old next spaced }
 {
     reading.word = List::new(alloc);
@@ -294,7 +303,7 @@ fn put_slot(alloc: Global, reading: &mut Reading, next: Slot, spaced: bool)
 
 fn put_condition(
     alloc: Global,
-    reading: &mut Reading,
+    reading: &mut SubselectReading,
     value: Compared,
     spaced: bool,
 ) -> Result<(), NoMemory>
@@ -302,16 +311,19 @@ fn put_condition(
 {
     let column = text_of(alloc, reading.tested.inner().as_slice())?;
     reading.conditions.push(Condition { column, value })?;
-    put_slot(alloc, reading, Slot::Next, spaced);
+    put_slot(alloc, reading, SubselectSlot::Next, spaced);
     Ok(())
 }
 
 /// Goes on after a whole word.
-fn finish(alloc: Global, reading: &mut Reading) -> Result<(), NoMemory>
+fn finish(alloc: Global, reading: &mut SubselectReading) -> Result<(), NoMemory>
     ensures { OnOk result (reading.new ≡ wanted.finished_at reading.old.slot reading.old) }
 {
     match reading.slot {
-        Slot::Column | Slot::Table | Slot::Tested | Slot::Routed => finish_name(alloc, reading),
+        SubselectSlot::Column
+        | SubselectSlot::Table
+        | SubselectSlot::Tested
+        | SubselectSlot::Routed => finish_name(alloc, reading),
         _ => {
             finish_keyword(alloc, reading);
             Ok(())
@@ -319,23 +331,23 @@ fn finish(alloc: Global, reading: &mut Reading) -> Result<(), NoMemory>
     }
 }
 
-fn finish_name(alloc: Global, reading: &mut Reading) -> Result<(), NoMemory>
+fn finish_name(alloc: Global, reading: &mut SubselectReading) -> Result<(), NoMemory>
     requires { wanted.takes_name reading.old.slot ≡ true }
     ensures { OnOk result (reading.new ≡ wanted.finished_at reading.old.slot reading.old) }
 {
     let word = List::of(reading.word.inner().as_slice().to_vec(alloc)?);
     match reading.slot {
-        Slot::Column => {
+        SubselectSlot::Column => {
             reading.column = word;
-            put_slot(alloc, reading, Slot::From, false);
+            put_slot(alloc, reading, SubselectSlot::From, false);
         }
-        Slot::Table => {
+        SubselectSlot::Table => {
             reading.table = word;
-            put_slot(alloc, reading, Slot::Where, false);
+            put_slot(alloc, reading, SubselectSlot::Where, false);
         }
-        Slot::Tested => {
+        SubselectSlot::Tested => {
             reading.tested = word;
-            put_slot(alloc, reading, Slot::Equals, false);
+            put_slot(alloc, reading, SubselectSlot::Equals, false);
         }
         _ => {
             let name = text_of(alloc, word.inner().as_slice())?;
@@ -345,20 +357,20 @@ fn finish_name(alloc: Global, reading: &mut Reading) -> Result<(), NoMemory>
     Ok(())
 }
 
-fn finish_keyword(alloc: Global, reading: &mut Reading)
+fn finish_keyword(alloc: Global, reading: &mut SubselectReading)
     requires { wanted.takes_name reading.old.slot ≡ false }
     ensures { reading.new ≡ wanted.finished_at reading.old.slot reading.old }
 {
     let next = match reading.slot {
-        Slot::Prefix => Slot::Dot,
-        Slot::Which => {
+        SubselectSlot::Prefix => SubselectSlot::Dot,
+        SubselectSlot::Which => {
             reading.by = node_column(reading.word.inner().as_slice());
-            Slot::In
+            SubselectSlot::In
         }
-        Slot::In => Slot::Open,
-        Slot::Select => Slot::Column,
-        Slot::From => Slot::Table,
-        Slot::Where | Slot::Next => Slot::Tested,
+        SubselectSlot::In => SubselectSlot::Open,
+        SubselectSlot::Select => SubselectSlot::Column,
+        SubselectSlot::From => SubselectSlot::Table,
+        SubselectSlot::Where | SubselectSlot::Next => SubselectSlot::Tested,
         _ => return,
     };
     put_slot(alloc, reading, next, false);
@@ -379,41 +391,41 @@ fn is_spacing(c: char) -> bool
     c == ' ' || c == '\t' || c == '\r' || c == '\n'
 }
 
-fn takes_name(slot: Slot) -> bool
+fn takes_name(slot: SubselectSlot) -> bool
     ensures { result ≡ wanted.takes_name slot }
 {
     matches!(
         slot,
-        Slot::Column | Slot::Table | Slot::Tested | Slot::Routed
+        SubselectSlot::Column | SubselectSlot::Table | SubselectSlot::Tested | SubselectSlot::Routed
     )
 }
 
-fn is_keyword(slot: Slot, word: &[char]) -> bool
+fn is_keyword(slot: SubselectSlot, word: &[char]) -> bool
     ensures { result ≡ wanted.is_keyword slot word.now }
 {
     match slot {
-        Slot::Prefix => word == NODE.as_slice(),
-        Slot::Which => word == EXTERNAL_ID.as_slice() || word == NODE_ID.as_slice(),
-        Slot::In => word == IN.as_slice(),
-        Slot::Select => word == SELECT.as_slice(),
-        Slot::From => word == FROM.as_slice(),
-        Slot::Where => word == WHERE.as_slice(),
-        Slot::Next => word == AND.as_slice(),
+        SubselectSlot::Prefix => word == NODE.as_slice(),
+        SubselectSlot::Which => word == EXTERNAL_ID.as_slice() || word == NODE_ID.as_slice(),
+        SubselectSlot::In => word == IN.as_slice(),
+        SubselectSlot::Select => word == SELECT.as_slice(),
+        SubselectSlot::From => word == FROM.as_slice(),
+        SubselectSlot::Where => word == WHERE.as_slice(),
+        SubselectSlot::Next => word == AND.as_slice(),
         _ => false,
     }
 }
 
-fn begins_keyword(slot: Slot, word: &[char]) -> bool
+fn begins_keyword(slot: SubselectSlot, word: &[char]) -> bool
     ensures { result ≡ wanted.begins_keyword slot word.now }
 {
     match slot {
-        Slot::Prefix => begins(&NODE, word),
-        Slot::Which => begins(&EXTERNAL_ID, word) || begins(&NODE_ID, word),
-        Slot::In => begins(&IN, word),
-        Slot::Select => begins(&SELECT, word),
-        Slot::From => begins(&FROM, word),
-        Slot::Where => begins(&WHERE, word),
-        Slot::Next => begins(&AND, word),
+        SubselectSlot::Prefix => begins(&NODE, word),
+        SubselectSlot::Which => begins(&EXTERNAL_ID, word) || begins(&NODE_ID, word),
+        SubselectSlot::In => begins(&IN, word),
+        SubselectSlot::Select => begins(&SELECT, word),
+        SubselectSlot::From => begins(&FROM, word),
+        SubselectSlot::Where => begins(&WHERE, word),
+        SubselectSlot::Next => begins(&AND, word),
         _ => false,
     }
 }
