@@ -16,7 +16,7 @@ ghost use Rattle.sds_trade.specs.worked.Policies.{SpecifiedMakesItsColumns, Abse
 ghost use Rattle.sds_trade.specs.worked.References.{OthersMayGo, TablesAreApart, MissingIsMissing, SoldMayChange};
 ghost use Rattle.sds_trade.specs.worked.Resolving.{RowIsSkipped, BatchIsIgnored, ManualIsRefused, TieIsSkipped, NewerIsApplied};
 ghost use Rattle.sds_trade.specs.worked.Routing.{OwnGoesToAll, NoPingBack, PingBack, NamedOnce, DisabledNamesNone, NobodyIsNamed, ChannelsGoInOrder, LanesAreApart};
-ghost use Rattle.sds_trade.specs.worked.Texts.{KeysAreNamed, ColumnsAreNamed, TextsAreRead};
+ghost use Rattle.sds_trade.specs.worked.Texts.{KeysAreNamed, InsertsNameTheKey, ColumnsAreNamed, TextsAreRead};
 ghost use Rattle.sds_trade.specs.worked.Writes.{SecondKey, LostUpdate, SaleOfNothing, DeleteOfSold, SoldKeepsKey, KeyChanges, NullName, BadKey, ShortRow, NoTable, NullKey, SecondRow, FirstOfTwo, MissingGivesNull, MissingTakesKey, KeyBecomesNull};
 
 /// Batches of transactions of two, three and one changes, by each algorithm; and of no change.
@@ -128,6 +128,7 @@ pub fn conflicts_are_resolved()
 /// Rows as texts, and the rule that each breaks.
 pub fn texts_are_judged()
     ensures keys { KeysAreNamed }
+    ensures inserts { InsertsNameTheKey }
     ensures columns { ColumnsAreNamed }
     ensures values { TextsAreRead }
 {}
