@@ -25,3 +25,4 @@ pub mod Transforms
 pub mod Conflicts
 pub mod Resolutions
 pub mod Outcomes
+pub mod Fitting

@@ -4,19 +4,19 @@ ghost use Rattle.sds_trade.specs.worked.Capturing.{GroupsCapture, EventsCapture,
 ghost use Rattle.sds_trade.specs.worked.Columns.{Copies, Substrings, Lefts, Maps, OfNull};
 ghost use Rattle.sds_trade.specs.worked.Cutting.{WholeTransactions, FullBatches, EachTransaction, NothingIsCut, PlacesAndCounts};
 ghost use Rattle.sds_trade.specs.worked.Detecting.{ByKey, ByOld, ByChanged, ByVersion};
-ghost use Rattle.sds_trade.specs.worked.Extracting.{ChangesAreWritten, TransformsAreMeant, DeletesAreNotAdded};
+ghost use Rattle.sds_trade.specs.worked.Extracting.{ChangesAreWritten, TransformsAreMeant, OthersAreNot, DeletesAreNotAdded};
 ghost use Rattle.sds_trade.specs.worked.Falling.{InsertsStand, UpdatesStand, DeletesStand, NewerVersionWins, VersionIsNeeded};
 ghost use Rattle.sds_trade.specs.worked.Keys.{ListedKeyIsOnce, SpecifiedHasItsKeys, KeysAreLookedUp, KeysAreOld, EventsTakePart};
 ghost use Rattle.sds_trade.specs.worked.Limits.{FullRefuses, NearlyFullTakes, CaptureIsFull, UncapturedIsTaken};
 ghost use Rattle.sds_trade.specs.worked.Loading.{CountIsAdded, SumIsTooGreat, LessIsAdded, OldIsNeeded, ChannelIsUnknown, TextsComeFirst, ParentIsMissing};
 ghost use Rattle.sds_trade.specs.worked.Naming.{MovesToNew, MovesFromOld, DeleteLooksBack, InsertHasNoOld, WordsAreApart, LookupDecides, ChoiceDecides};
 ghost use Rattle.sds_trade.specs.worked.Operands.{WordsAreTold, DefaultNamesAll, LookupsLookRight, ChoicesByNode};
-ghost use Rattle.sds_trade.specs.worked.Peers.{TriggersTell, GroupsTell};
+ghost use Rattle.sds_trade.specs.worked.Peers.{TriggersTell, GroupsTell, ExpressionsTell};
 ghost use Rattle.sds_trade.specs.worked.Policies.{SpecifiedMakesItsColumns, AbsentOldIsTheKey, ImpliedKeepsPlaces, KeysRemain, DeletesBecome};
 ghost use Rattle.sds_trade.specs.worked.References.{OthersMayGo, TablesAreApart, MissingIsMissing, SoldMayChange};
 ghost use Rattle.sds_trade.specs.worked.Resolving.{RowIsSkipped, BatchIsIgnored, ManualIsRefused, TieIsSkipped, NewerIsApplied};
 ghost use Rattle.sds_trade.specs.worked.Routing.{OwnGoesToAll, NoPingBack, PingBack, NamedOnce, DisabledNamesNone, NobodyIsNamed, ChannelsGoInOrder, LanesAreApart};
-ghost use Rattle.sds_trade.specs.worked.Texts.{KeysAreNamed, ColumnsAreNamed, TextsAreRead};
+ghost use Rattle.sds_trade.specs.worked.Texts.{KeysAreNamed, InsertsNameTheKey, ColumnsAreNamed, TextsAreRead};
 ghost use Rattle.sds_trade.specs.worked.Writes.{SecondKey, LostUpdate, SaleOfNothing, DeleteOfSold, SoldKeepsKey, KeyChanges, NullName, BadKey, ShortRow, NoTable, NullKey, SecondRow, FirstOfTwo, MissingGivesNull, MissingTakesKey, KeyBecomesNull};
 
 /// Batches of transactions of two, three and one changes, by each algorithm; and of no change.
@@ -128,6 +128,7 @@ pub fn conflicts_are_resolved()
 /// Rows as texts, and the rule that each breaks.
 pub fn texts_are_judged()
     ensures keys { KeysAreNamed }
+    ensures inserts { InsertsNameTheKey }
     ensures columns { ColumnsAreNamed }
     ensures values { TextsAreRead }
 {}
@@ -191,12 +192,14 @@ pub fn operands_are_compared()
 pub fn peers_are_told()
     ensures triggers { TriggersTell }
     ensures groups { GroupsTell }
+    ensures expressions { ExpressionsTell }
 {}
 
 /// Changes as rows of batches, and which transforms are for them.
 pub fn changes_are_written()
     ensures written { ChangesAreWritten }
     ensures meant { TransformsAreMeant }
+    ensures others { OthersAreNot }
     ensures deletes { DeletesAreNotAdded }
 {}
 

@@ -25,10 +25,12 @@ use Rattle.sds_trade.specs.worked.Tiers.{tiers_with}
 abbrev pub BatchesAreKnown : Type 0
 BatchesAreKnown = let batch = prepared_batch (record shop {
   conflicts = record (sale_setting true) { source_group = 0; target_group = 1 }
-      ∷ (record (sale_setting true) { target_table = 0 } ∷ (sale_setting true ∷ []));
+      ∷ (record (sale_setting true) { source_group = 0 }
+      ∷ (record (sale_setting true) { target_group = 1 }
+      ∷ (record (sale_setting true) { target_table = 0 } ∷ (sale_setting true ∷ []))));
 }) way_up (batch_doc (codes "stock") []) in
     (batch.from ≡ codes "s1") × (batch.from_group ≡ codes "store") × (batch.channel ≡ Some 1)
-    × (batch.settings ≡ Some 1 ∷ (None ∷ (Some 2 ∷ [])))
+    × (batch.settings ≡ Some 3 ∷ (None ∷ (Some 4 ∷ [])))
 
 -- the second row is the one that is refused
 abbrev pub stock_of_none : DocRow

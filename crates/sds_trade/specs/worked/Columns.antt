@@ -5,14 +5,19 @@ use Rattle.sds_value.specs.declared.row.Field.TheVariants.{Null, Text}
 use Rattle.sds_types.specs.declared.transform_column.ColumnExpression.{ColumnExpression}
 use Rattle.sds_types.specs.declared.transform_column.ColumnKind.{ColumnKind}
 use Rattle.sds_types.specs.declared.transform_column.ColumnKind.TheVariants.{Copy, Const, Left, Substr, ValueMap, Variable}
+use Rattle.sds_types.specs.declared.way.Way.{Way}
 use Rattle.sds_trade.specs.rules.ColumnFunctions.{field_made}
 use Rattle.sds_trade.specs.rules.Expressions.{column_expression_of}
 use Rattle.sds_trade.specs.worked.Shop.{way_up}
 
--- what an expression makes of a field on the way from a store to corp
+-- the way from a store to a node of corp whose id isn't its group's
+abbrev pub way_to_c1 : Way
+way_to_c1 = record way_up { target = codes "c1" }
+
+-- what an expression makes of a field on that way
 abbrev pub made_by : Option ColumnExpression → Field → Field
 made_by None source = Null
-made_by (Some expression) source = field_made way_up expression source
+made_by (Some expression) source = field_made way_to_c1 expression source
 
 abbrev pub Makes : ColumnKind → List ℕ → Field → Field → Type 0
 Makes kind text source result = made_by (column_expression_of kind text) source ≡ result
@@ -46,4 +51,4 @@ OfNull = Makes Copy [] Null Null × Makes Left (codes "2") Null Null
     × Makes ValueMap (codes "*=9") Null Null
     × Makes Const (codes "x") Null (Text (codes "x"))
     × Makes Variable (codes "source_node_id") Null (Text (codes "s1"))
-    × Makes Variable (codes "target_node_id") Null (Text (codes "corp"))
+    × Makes Variable (codes "target_node_id") Null (Text (codes "c1"))

@@ -90,6 +90,16 @@ TransformsAreMeant =
     × (shaped_rows (record shop { transforms = at_extract ∷ [] }) way_up (stock_insert (codes "5"))
     ≡ passes (stock_insert (codes "5")))
 
+-- those of other groups, or of another table, aren't for it
+abbrev pub other_transforms : List TransformDef
+other_transforms = record (sum_transform [] (pos 1)) { source_group = 0 }
+    ∷ (record (sum_transform [] (pos 1)) { target_group = 1 }
+    ∷ (record (sum_transform [] (pos 1)) { source_table = codes "item" } ∷ []))
+
+abbrev pub OthersAreNot : Type 0
+OthersAreNot = shaped_rows (record shop { transforms = other_transforms }) way_up
+    (stock_insert (codes "5")) ≡ passes (stock_insert (codes "5"))
+
 -- an additive column takes no part at a delete
 abbrev pub stock_delete : DocRow
 stock_delete = record (stock_doc Delete [] (Text (codes "1") ∷ []) None) { new = [] }

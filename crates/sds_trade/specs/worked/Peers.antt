@@ -1,10 +1,13 @@
 -- Worked cases: which peers a change is for, by trigger, group and node.
-use Rattle.std.specs.Prelude.{◌≡◌, ℕ, false, List, [], ◌∷◌, None, codes}
+use Rattle.std.specs.Prelude.{◌≡◌, ℕ, false, List, [], ◌∷◌, None, codes, ◌++◌}
 use Rattle.sds_value.specs.declared.row.Peer.{Peer}
 use Rattle.sds_types.specs.declared.config.Config.{Config}
+use Rattle.sds_types.specs.declared.column_test.Operand.TheVariants as operand
+use Rattle.sds_types.specs.declared.router.RouterExpression.TheVariants.{Tests}
+use Rattle.sds_types.specs.declared.router.RouterKind.TheVariants as router
 use Rattle.sds_types.specs.declared.row.Change.{Change}
 use Rattle.sds_trade.specs.rules.Named.{targets_of}
-use Rattle.sds_trade.specs.worked.Entries.{join_of, peer_of}
+use Rattle.sds_trade.specs.worked.Entries.{default_router, join_of, peer_of}
 use Rattle.sds_trade.specs.worked.Routing.{stock_change}
 use Rattle.sds_trade.specs.worked.Shop.{corp, shop}
 use Rattle.sds_trade.specs.worked.Tiers.{region, region_peers, tiers_with}
@@ -35,3 +38,23 @@ GroupsTell = For from_stores corp (region ∷ []) (stock_change None) []
     × For from_stores store (region ∷ []) (stock_change None) (0 ∷ [])
     × For (tiers_with false) region (record corp { id = codes "r1" } ∷ region_peers)
     (stock_change None) (1 ∷ (2 ∷ (3 ∷ [])))
+
+-- a router's expression is asked
+abbrev pub asking : List ℕ → Config
+asking text = record (tiers_with false) {
+  routers = record (default_router (codes "rs") 1 2) {
+    kind = router.Column;
+    expression = codes "item=" ++ text;
+    parsed = Tests (record {
+      name = codes "item";
+      old = false;
+      differs = false;
+      operand = operand.Text text;
+    } ∷ []);
+  } ∷ [];
+  trigger_routers = join_of 0 0 ∷ [];
+}
+
+abbrev pub ExpressionsTell : Type 0
+ExpressionsTell = For (asking (codes "1")) region region_peers (stock_change None) (1 ∷ (2 ∷ []))
+    × For (asking (codes "2")) region region_peers (stock_change None) []

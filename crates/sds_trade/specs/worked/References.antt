@@ -50,11 +50,12 @@ MissingIsMissing = Ends (delete_row (codes "item") (codes "99")) (Refused 1 RowM
 
 -- an item that was sold may change but for its key
 abbrev pub cheap_pen : TableRow
-cheap_pen = table_row 0 (number 1 ∷ (value.Text (codes "Pen") ∷ (value.Decimal (pos 5) ∷ [])))
+cheap_pen = table_row 0 (number 1 ∷ (value.Text (codes "Nib") ∷ (value.Decimal (pos 5) ∷ [])))
 
 abbrev pub SoldMayChange : Type 0
 SoldMayChange = Ends (own_row Update (codes "item")
-    (Text (codes "1") ∷ (Text (codes "price") ∷ (Text (codes "0.05") ∷ []))))
+    (Text (codes "1") ∷ (Text (codes "price") ∷ (Text (codes "0.05")
+    ∷ (Text (codes "name") ∷ (Text (codes "Nib") ∷ []))))))
     (Made (record {
       step = step.Update 0 (record { 0 = number 1 ∷ [] }) cheap_pen.row;
       old = Some pen.row;

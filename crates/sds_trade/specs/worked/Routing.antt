@@ -66,9 +66,9 @@ two_a_batch channel = record channel { max_batch_size = 2 }
 
 abbrev pub three_channels : Config
 three_channels = record (tiers_with false) {
-  channels = two_a_batch (channel_def (codes "c") 20)
-      ∷ (two_a_batch (channel_def (codes "b") 10)
-      ∷ (two_a_batch (channel_def (codes "a") 10) ∷ []));
+  channels = two_a_batch (channel_def (codes "a") 20)
+      ∷ (two_a_batch (channel_def (codes "c") 10)
+      ∷ (two_a_batch (channel_def (codes "b") 10) ∷ []));
 }
 
 abbrev pub ChannelsGoInOrder : Type 0

@@ -4,7 +4,7 @@ use Rattle.sds_value.specs.declared.kind.Binary.{Binary}
 use Rattle.sds_value.specs.declared.kind.Binary.TheVariants.{Base64, Hex}
 use Rattle.sds_value.specs.declared.kind.Kind.TheVariants.{Integer, Varchar, Varbinary}
 use Rattle.sds_value.specs.declared.row.DocRow.{DocRow}
-use Rattle.sds_value.specs.declared.row.Event.TheVariants.{Update}
+use Rattle.sds_value.specs.declared.row.Event.TheVariants.{Insert, Update}
 use Rattle.sds_value.specs.declared.row.Field.{Field}
 use Rattle.sds_value.specs.declared.row.Field.TheVariants.{Null, Text}
 use Rattle.sds_value.specs.declared.table.TableDef.{TableDef}
@@ -62,6 +62,16 @@ KeysAreNamed = Reads Base64 (text_update (Text (codes "abc")) None) None
     × KeyBreaks (codes "text" ∷ (codes "order" ∷ [])) one_two MissingKey
     × KeyBreaks (codes "order" ∷ []) (Text (codes "1") ∷ []) MissingKey
     × KeyBreaks both_keys (Text (codes "1") ∷ (Null ∷ [])) MissingKey
+
+-- at an insert the key's names have to be right too, though its values stand among the new ones
+abbrev pub part_insert : List (List ℕ) → DocRow
+part_insert keys = record (part_doc keys [] (codes "order" ∷ (codes "line" ∷ [])) one_two None) {
+  event = Insert;
+}
+
+abbrev pub InsertsNameTheKey : Type 0
+InsertsNameTheKey = Reads Base64 (part_insert both_keys) None
+    × Reads Base64 (part_insert (codes "order" ∷ (codes "text" ∷ []))) (Some MissingKey)
 
 -- so it is with columns, and with more or fewer fields than names
 abbrev pub ColumnsAreNamed : Type 0
