@@ -12,7 +12,7 @@ abbrev pub changes_in : List (List Change) → List Change
 changes_in [] = []
 changes_in (piece ∷ pieces) = piece ++ changes_in pieces
 
--- a piece ends where its last change's transaction ends in the list that goes on with these changes
+-- the change that follows a piece, if one does, is of another transaction than the piece's last
 abbrev pub EndsBefore : List Change → List Change → Type 0
 EndsBefore piece [] = Unit {0}
 EndsBefore piece (next ∷ later) =

@@ -62,7 +62,7 @@ key_fields doc = elim doc.event [
   | Delete ↦ zip doc.keys doc.key
 ]
 
--- the key names are those of the table's key, in any order, and each has a value
+-- the row names the columns of the table's key, in whatever order, and gives each of them a value
 abbrev pub names_key : List (List ℕ) → DocRow → Bool
 names_key names doc = length doc.keys == length names
     && list_all (λ (name : List ℕ). is_among doc.keys name) names

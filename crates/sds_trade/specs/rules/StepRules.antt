@@ -17,7 +17,7 @@ use Rattle.sds_trade.specs.rules.Places.{columns_at}
 use Rattle.sds_trade.specs.rules.Tables.{is_null, key_of, has_row, finds_parents, refers_to}
 use Rattle.sds_trade.specs.rules.Steps.{table_of, new_row, old_key, other_rows, rows_after}
 
--- a column that doesn't allow null would be null
+-- a row has a null in a column that doesn't allow it
 abbrev pub has_null : List ColumnDef → Row → Bool
 has_null columns row =
     list_any (λ (at : ColumnDef × Value). at.0.not_null && is_null at.1) (zip columns row.0)
@@ -26,7 +26,7 @@ abbrev pub puts_null : List TableDef → RowStep → Bool
 puts_null defs step =
     option_map_or (has_null (columns_at defs (table_of step))) (new_row step) false
 
--- the new key is that of another row
+-- one of the rows that a step leaves alone has the key of the new row
 abbrev pub takes_key : List TableDef → List TableRow → ℕ → Row → Bool
 takes_key defs others table row = has_row defs others table (key_of defs table row)
 
@@ -46,7 +46,7 @@ misses_parent defs rows step =
     (λ (row : Row). not (finds_parents defs (rows_after defs rows step) (table_of step) row))
     (new_row step) false
 
--- after the step another row refers to the old key, and no row has it
+-- rows that the step leaves alone refer to the old key, which no row has after it
 abbrev pub is_orphaning : List TableDef → List TableRow → RowStep → Key → Bool
 is_orphaning defs rows step key =
     list_any (refers_to defs (table_of step) key) (other_rows defs rows step)

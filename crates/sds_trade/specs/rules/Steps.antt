@@ -12,7 +12,7 @@ use Rattle.sds_types.specs.declared.row.RowStep.TheVariants.{Insert, Update, Del
 use Rattle.sds_types.specs.declared.row.TableRow.{TableRow}
 use Rattle.sds_trade.specs.rules.Tables.{row_order, is_at}
 
--- the event that really happens: what began as an insert may end as an update
+-- the event of a step: what a batch brings as an insert may be made as an update
 abbrev pub event_of : RowStep → Event
 event_of (Insert table row) = event.Insert
 event_of (Update table key row) = event.Update
