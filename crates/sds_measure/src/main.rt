@@ -1,0 +1,83 @@
+//! A program that measures symds: how fast documents are written and read. Without words it does a little of all that it
+//! measures and prints what came of it, the same each time; with a number of megabytes it does so much of it, and prints
+//! the seconds and the megabytes a second.
+#![tactic(auto)]
+
+mod cases;
+mod listing;
+mod measures;
+mod sample;
+
+use cases::differing;
+use listing::Listing;
+use measures::{Measured, read_batches, write_batches};
+use sample::batch;
+use std::alloc::Global;
+use std::rt::{Clock, Env, Files};
+use std::time::Instant;
+use std::{env, fs, io};
+
+/// Rows of the batch that is written and read: its text has some 64 KiB.
+const ROWS: usize = 2_000;
+
+/// The batches of a run without words.
+const FEW: u64 = 2;
+
+/// The bytes of a megabyte, and those that a batch has at the least.
+const MEGABYTE: u64 = 1_000_000;
+
+/// How many megabytes are asked for, if any are.
+fn megabytes<R: Env + Alloc<A = Global>>(rt: &R) -> io::Result<Option<u64>> {
+    for word in env::args(rt)?.skip(1) {
+        if let Ok(number) = word.as_str().parse::<u64>() {
+            return Ok(Some(number.min(10_000)));
+        }
+    }
+    Ok(None)
+}
+
+fn main(rt: HostRuntime) -> io::Result<()> {
+    let asked = megabytes(&rt)?;
+    if asked.is_none() {
+        let text = fs::read(&rt, "documents")?;
+        let (count, differ) = differing(rt.alloc(), text.as_slice()).map_err(|_| none())?;
+        println!(rt; "documents {count}, {differ} differ")?;
+    }
+    let turns = asked
+        .unwrap_or(0)
+        .saturating_mul(MEGABYTE / 64_000)
+        .max(FEW)
+        .min(1_000_000);
+    let start = Instant::now(&rt)?;
+    let written = write_batches(rt.alloc(), ROWS, turns).map_err(|_| none())?;
+    tell(&rt, "written", &written, start, asked.is_some())?;
+    let start = Instant::now(&rt)?;
+    let read = read_batches(rt.alloc(), ROWS, turns).map_err(|_| none())?;
+    tell(&rt, "read", &read, start, asked.is_some())
+}
+
+/// Out of memory, as an error of input or output.
+fn none() -> io::Error {
+    io::Error::from(io::ErrorKind::OutOfMemory)
+}
+
+fn tell<R: Print + Clock>(
+    rt: &R,
+    what: &str,
+    measured: &Measured,
+    start: Instant,
+    is_timed: bool,
+) -> io::Result<()> {
+    let Measured { rows, bytes } = *measured;
+    if !is_timed {
+        return println!(rt; "{what} {rows} rows, {bytes} bytes");
+    }
+    let elapsed = start.elapsed(rt)?;
+    let millis = elapsed
+        .as_secs()
+        .saturating_mul(1_000)
+        .saturating_add(u64::from(elapsed.subsec_millis()))
+        .max(1);
+    let speed = bytes / 1_000 / millis;
+    println!(rt; "{what} {rows} rows, {bytes} bytes in {millis} ms, {speed} MB/s")
+}
