@@ -1,5 +1,5 @@
 -- The batch that is written and read: so many equal rows of a table of sales.
-use Rattle.std.specs.Prelude.{ℕ, List, [], ◌∷◌, codes, replicate, None}
+use Rattle.std.specs.Prelude.{ℕ, [], ◌∷◌, codes, replicate, None}
 use Rattle.sds_types.specs.declared.document.BatchDoc.{BatchDoc}
 use Rattle.sds_value.specs.declared.kind.Binary.TheVariants.{Base64}
 use Rattle.sds_value.specs.declared.row.DocRow.{DocRow}

@@ -6,7 +6,7 @@ use sds_base::NoMemory;
 use sds_batchtext::Reader;
 use std::alloc::Global;
 
-/// What stands after each document and after each list of what is due. No text in UTF-8 has the byte.
+/// What stands after each document and after each list of what is due: a byte that UTF-8 lacks.
 const MARK: u8 = 0xFE;
 
 /// The bytes before the next mark, and those after it.

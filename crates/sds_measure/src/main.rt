@@ -1,6 +1,7 @@
-//! A program that measures symds: how fast documents are written and read. Without words it does a little of all that it
-//! measures and prints what came of it, the same each time; with a number of megabytes it does so much of it, and prints
-//! the seconds and the megabytes a second.
+//! A program that measures symds: how fast documents are written and read. Without words it reads the
+//! worked documents and does a little of what it measures, and prints what came of it, the same each
+//! time; with a number of megabytes it does so much of it, and prints milliseconds and megabytes a
+//! second.
 #![tactic(auto)]
 
 mod cases;
