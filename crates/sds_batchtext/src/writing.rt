@@ -153,7 +153,6 @@ fn put_heading(row: &DocRow, out: &mut Vec<u8>) -> Result<(), NoMemory>
     put_names(b"columns", row.columns.inner().as_slice(), out)
 }
 
-#[tactic(auto, using(crate::proofs::Joins::join_lines))]
 fn put_row(row: &DocRow, out: &mut Vec<u8>) -> Result<(), NoMemory>
     ensures ok { OnOk result (out.new.items ≡ out.old.items
         ++ stated.text_of_lines (stated.row_lines row.now)) }
