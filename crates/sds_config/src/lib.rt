@@ -20,8 +20,6 @@ mod routers;
 mod rules;
 mod sections;
 mod tables;
-#[cfg(test)]
-mod tests;
 mod transforms;
 mod triggers;
 mod words;

@@ -203,3 +203,12 @@ fn a_file_has_at_most_a_mebibyte(rt: HostRuntime) -> Result<(), Fail> {
     }
     Ok(())
 }
+
+#[test]
+fn a_file_that_is_no_toml_is_refused_at_its_place(rt: HostRuntime) {
+    let read = Config::read(
+        rt.alloc(),
+        b"version = 1\n# caf\xc3\xa9\ngroup =".as_slice(),
+    );
+    assert!(rt; matches!(read, Err(ConfigRefusal::NotToml { line: 3, column: 8 })));
+}
