@@ -1,0 +1,23 @@
+-- A node by itself: its acts, the state that they leave, and what its calls answer.
+pub mod Acts
+pub mod Orders
+pub mod Runs
+pub mod Changes
+pub mod Peers
+pub mod Openings
+pub mod Writers
+pub mod Made
+pub mod Standings
+pub mod Lanes
+pub mod States
+pub mod Counters
+pub mod Writes
+pub mod Routes
+pub mod Loads
+pub mod Acks
+pub mod Links
+pub mod Registrations
+pub mod Joins
+pub mod Confirmations
+pub mod Documents
+pub mod Messages
