@@ -16,9 +16,9 @@ use Rattle.sds_types.specs.declared.rule.Rule.{Rule}
 use Rattle.sds_types.specs.declared.rule.Rule.TheVariants.{UnknownChannel}
 use Rattle.sds_trade.specs.rules.Outcomes.{outcome_of_batch}
 use Rattle.sds_trade.specs.rules.Runs.{RunEnd}
-use Rattle.sds_trade.specs.rules.Runs.RunEnd as end
+use Rattle.sds_trade.specs.rules.Runs.RunEnd.{Made, Ignored, Refused}
 use Rattle.sds_history.specs.history.Acts.{Act, State}
-use Rattle.sds_history.specs.history.Acts.Act as act
+use Rattle.sds_history.specs.history.Acts.Act.{Loaded, Erred}
 use Rattle.sds_history.specs.history.Counters.{answer_within, within}
 use Rattle.sds_history.specs.history.Lanes.{lane_of}
 use Rattle.sds_history.specs.history.Peers.{peer_of}
@@ -32,9 +32,9 @@ knows_sender state from batch = option_map_or
 
 -- the answer by how the rows end; a load's place is its act's number
 abbrev pub ended_answer : State → RunEnd → LoadAnswer
-ended_answer state (end.Made dones rows) = answer.Loaded (state.counts.acts + 1)
-ended_answer state end.Ignored = answer.Ignored (state.counts.acts + 1)
-ended_answer state (end.Refused row rule) = answer.Erred row rule
+ended_answer state (Made dones rows) = answer.Loaded (state.counts.acts + 1)
+ended_answer state Ignored = answer.Ignored (state.counts.acts + 1)
+ended_answer state (Refused row rule) = answer.Erred row rule
 
 abbrev pub outcome_answer : Config → State → Prepared → LoadAnswer
 outcome_answer config state batch = ended_answer state
@@ -74,11 +74,11 @@ keeps_error lane error = option_map_or (same_error error) lane.error false
 abbrev pub error_act : State → List ℕ → ℕ → LaneError → Option Act
 error_act state from channel error =
     if keeps_error (lane_of state.lanes from channel) error then None
-    else Some (act.Erred from channel error)
+    else Some (Erred from channel error)
 
 abbrev pub load_by : State → List ℕ → Prepared → ℕ → LoadAnswer → Option Act
-load_by state from batch channel (answer.Loaded place) = Some (act.Loaded channel batch)
-load_by state from batch channel (answer.Ignored place) = Some (act.Loaded channel batch)
+load_by state from batch channel (answer.Loaded place) = Some (Loaded channel batch)
+load_by state from batch channel (answer.Ignored place) = Some (Loaded channel batch)
 load_by state from batch channel answer.Again = None
 load_by state from batch channel (answer.Erred row rule) =
     error_act state from channel (record { batch = batch.batch; row = row; rule = rule })

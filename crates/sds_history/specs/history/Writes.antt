@@ -12,7 +12,7 @@ use Rattle.sds_types.specs.declared.write_answer.Written.{Written}
 use Rattle.sds_types.specs.declared.write_answer.Written.TheVariants.{Done, Again}
 use Rattle.sds_trade.specs.rules.OwnWrites.{outcome_of_write}
 use Rattle.sds_trade.specs.rules.Runs.{RunEnd}
-use Rattle.sds_trade.specs.rules.Runs.RunEnd as end
+use Rattle.sds_trade.specs.rules.Runs.RunEnd.{Made, Ignored, Refused}
 use Rattle.sds_history.specs.history.Acts.{Act, State}
 use Rattle.sds_history.specs.history.Acts.Act.{Wrote}
 use Rattle.sds_history.specs.history.Counters.{answer_within, within}
@@ -34,9 +34,9 @@ done_answer config state act = Done (state.counts.last_change + 1)
     ((state_after config state act).counts.last_change - state.counts.last_change)
 
 abbrev pub run_answer : Config → State → Act → RunEnd → Result Written WriteRefusal
-run_answer config state act (end.Made dones rows) = Ok (done_answer config state act)
-run_answer config state act end.Ignored = Ok (done_answer config state act)
-run_answer config state act (end.Refused row rule) = Err (Broken row rule)
+run_answer config state act (Made dones rows) = Ok (done_answer config state act)
+run_answer config state act Ignored = Ok (done_answer config state act)
+run_answer config state act (Refused row rule) = Err (Broken row rule)
 
 -- the answer to a write whose number is the next of its writer
 abbrev pub next_answer : Config → State → List ℕ → ℕ → List TxRow → Result Written WriteRefusal

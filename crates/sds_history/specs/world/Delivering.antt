@@ -141,7 +141,7 @@ delivered_between config world number message channels (Some sender) (Some node)
     if may_take config (state_in config node) message.from
     then taken config world number message channels (state_in config sender) node
     else tells world (Delivering number (Err NoWay))
-delivered_between config world number message channels sender node = quiet world
+delivered_between config world number message channels sender other = quiet world
 
 abbrev pub delivered : Config → World → ℕ → List ℕ → Option Message → Happened
 delivered config world number channels None = quiet world

@@ -15,7 +15,7 @@ use Rattle.sds_history.specs.world.Calling.{Called, call, armed}
 use Rattle.sds_history.specs.world.Delivering.{delivered}
 use Rattle.sds_history.specs.world.Exchanging.{pulled, pushed}
 use Rattle.sds_history.specs.world.Happened.{Happened, tells, quiet}
-use Rattle.sds_history.specs.world.Happened.Told as told
+use Rattle.sds_history.specs.world.Happened.Told.{Writing, Routing, Bytes, Tables, Batches, Crashed}
 use Rattle.sds_history.specs.world.Registering.{opened, registered}
 use Rattle.sds_history.specs.world.Sending.{sent}
 use Rattle.sds_history.specs.world.Worlds.{Node, World, message_of, node_of, reply_of, state_in, with_new_node, with_node}
@@ -30,7 +30,7 @@ abbrev pub written : Config → World → List ℕ → List ℕ → ℕ → List
 written config world id writer number rows None = quiet world
 written config world id writer number rows (Some node) =
     let called = write_at config node writer number rows in
-    tells (with_node world called.node) (told.Writing id writer number called.answer)
+    tells (with_node world called.node) (Writing id writer number called.answer)
 
 -- a routing run at a node
 abbrev pub route_at : Config → Node → Called ℕ NodeFault
@@ -40,7 +40,7 @@ route_at config node = let state = state_in config node in
 abbrev pub routed : Config → World → List ℕ → Option Node → Happened
 routed config world id None = quiet world
 routed config world id (Some node) = let called = route_at config node in
-    tells (with_node world called.node) (told.Routing id called.answer)
+    tells (with_node world called.node) (Routing id called.answer)
 
 -- a fault is armed at a node
 abbrev pub with_fault : World → Bool → Option Node → Happened
@@ -69,9 +69,9 @@ happened config noise world (event.Push from to) =
     pushed config world from to (node_of world from)
 happened config noise world (event.Pull to from) =
     pulled config world to from (node_of world from)
-happened config noise world (event.Wire message) = tells world (told.Message message)
-happened config noise world (event.Show node) = tells world (told.Tables node)
-happened config noise world (event.Batches node) = tells world (told.Batches node)
-happened config noise world (event.Crash node) = tells world (told.Crashed node)
+happened config noise world (event.Wire message) = tells world (Bytes message)
+happened config noise world (event.Show node) = tells world (Tables node)
+happened config noise world (event.Batches node) = tells world (Batches node)
+happened config noise world (event.Crash node) = tells world (Crashed node)
 happened config noise world (event.Fault node stands) =
     with_fault world stands (node_of world node)

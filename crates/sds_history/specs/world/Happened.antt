@@ -23,7 +23,7 @@ pub data Told : Type 0 where
   Answering : (reply : ℕ) → Result ℕ AckRefusal → Told
   NoPush : (from : List ℕ) → (to : List ℕ) → Told
   NoPull : (to : List ℕ) → (from : List ℕ) → Told
-  Message : (number : ℕ) → Told
+  Bytes : (message : ℕ) → Told
   Tables : (node : List ℕ) → Told
   Batches : (node : List ℕ) → Told
   Crashed : (node : List ℕ) → Told

@@ -1,4 +1,4 @@
--- What a rehearsal prints of what is told.
+-- What a rehearsal prints of what is
 use Rattle.std.specs.Prelude.{ℕ, List, [], ◌∷◌, ◌++◌, codes, Option, Result, Ok, Err}
 use Rattle.std.specs.Fmt.{decimal}
 use Rattle.std.specs.Option.{option_map_or}
@@ -8,7 +8,7 @@ use Rattle.sds_types.specs.declared.message.Message.{Message}
 use Rattle.sds_types.specs.declared.sync.SyncRefusal.{SyncRefusal}
 use Rattle.sds_history.specs.history.Acts.{State}
 use Rattle.sds_history.specs.world.Happened.{Told}
-use Rattle.sds_history.specs.world.Happened.Told as told
+use Rattle.sds_history.specs.world.Happened.Told.{Opening, Registering, Writing, Routing, Sending, Delivering, Answering, NoPush, NoPull, Bytes, Tables, Batches, Crashed}
 use Rattle.sds_history.specs.world.Listed.{batches_text}
 use Rattle.sds_history.specs.world.Shown.{message_text, tables_text}
 use Rattle.sds_history.specs.world.Words.{acks_words, answer_words, batches_words, delivery_words, line_of_words, registration_words, route_words, spaced, sync_words, write_words}
@@ -46,28 +46,28 @@ wire_of config world message = option_map_or
 
 -- what is printed of something told in a world
 abbrev pub told_text : Config → World → Told → List ℕ
-told_text config world (told.Opening at group external answer) = answered_line
+told_text config world (Opening at group external answer) = answered_line
     (named (codes "open") (at ∷ pair group external)) (registration_words answer)
-told_text config world (told.Registering asks at answer) =
+told_text config world (Registering asks at answer) =
     answered_line (named (codes "register") (pair asks at)) (registration_words answer)
-told_text config world (told.Writing node writer number answer) = answered_line
+told_text config world (Writing node writer number answer) = answered_line
     (named (codes "write") (pair node writer) ++ decimal number ∷ []) (write_words answer)
-told_text config world (told.Routing node answer) =
+told_text config world (Routing node answer) =
     answered_line (named (codes "route") (node ∷ [])) (route_words answer)
-told_text config world (told.Sending from to answer) = send_line from to answer
-told_text config world (told.Delivering message answer) =
+told_text config world (Sending from to answer) = send_line from to answer
+told_text config world (Delivering message answer) =
     answered_line (pair (codes "deliver") (decimal message)) (delivery_words answer)
-told_text config world (told.Answering reply answer) =
+told_text config world (Answering reply answer) =
     answered_line (pair (codes "answer") (decimal reply)) (answer_words answer)
-told_text config world (told.NoPush from to) =
+told_text config world (NoPush from to) =
     answered_line (named (codes "push") (pair from to)) (codes "no way")
-told_text config world (told.NoPull to from) =
+told_text config world (NoPull to from) =
     answered_line (named (codes "pull") (pair to from)) (codes "no way")
-told_text config world (told.Message number) =
+told_text config world (Bytes number) =
     wire_of config world (message_of world number)
-told_text config world (told.Tables node) =
+told_text config world (Tables node) =
     shown_of config world (tables_text config) node
-told_text config world (told.Batches node) =
+told_text config world (Batches node) =
     shown_of config world (batches_text config) node
-told_text config world (told.Crashed node) =
+told_text config world (Crashed node) =
     answered_line (named (codes "crash") (node ∷ [])) (codes "ok")

@@ -56,4 +56,4 @@ abbrev pub registered : Config → World → List ℕ → List ℕ → Option No
 registered config world asks at (Some child) (Some node) =
     let called = register_at config node child in
     after_register config (with_node world called.node) asks at called.node called.answer
-registered config world asks at child node = quiet world
+registered config world asks at child other = quiet world
