@@ -4,7 +4,6 @@ use Rattle.std.specs.Option.{option_or}
 use Rattle.sds_value.specs.declared.row.Field.{Field}
 use Rattle.sds_types.specs.declared.scenario.ScenarioLine.{ScenarioLine}
 use Rattle.sds_types.specs.declared.scenario.ScenarioLine.TheVariants.{Node, Open, Register, Write, Row, End, Route, Send, Deliver, Answer, Push, Pull, Wire, Show, Batches, Crash, Fault}
-use Rattle.sds_types.specs.declared.tx_row.TxRow.{TxRow}
 use Rattle.sds_scenario.specs.Rows.{row_of}
 use Rattle.sds_scenario.specs.Words.{name_in, names_in, number_in, is_word}
 

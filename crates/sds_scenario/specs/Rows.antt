@@ -1,9 +1,9 @@
 -- The rows of an own write among the lines of a scenario.
-use Rattle.std.specs.Prelude.{ℕ, if◌then◌else◌, codes, List, [], ◌∷◌, Option, None, Some, option_map}
+use Rattle.std.specs.Prelude.{ℕ, if◌then◌else◌, codes, List, ◌∷◌, Option, None, Some, option_map}
 use Rattle.sds_value.specs.declared.row.Event.{Event}
 use Rattle.sds_value.specs.declared.row.Event.TheVariants.{Insert, Update, Delete}
 use Rattle.sds_value.specs.declared.row.Field.{Field}
-use Rattle.sds_value.specs.declared.row.Field.TheVariants.{Null, Text}
+use Rattle.sds_value.specs.declared.row.Field.TheVariants.{Text}
 use Rattle.sds_types.specs.declared.tx_row.TxRow.{TxRow}
 use Rattle.sds_scenario.specs.Words.{is_word}
 

@@ -1,7 +1,6 @@
 -- What a node answers to acks of a peer, and the act that it makes.
 use Rattle.std.specs.Prelude.{ℕ, Bool, true, false, ◌&&◌, ◌==◌, not, nat_lt, if◌then◌else◌, List, length, Option, None, Some, Result, Ok, Err, is_some}
 use Rattle.std.specs.List.{filter, find, list_any, zip}
-use Rattle.std.specs.Option.{option_map_or}
 use Rattle.std.specs.Str.{bytes_eq}
 use Rattle.sds_types.specs.declared.ack.Ack.{Ack}
 use Rattle.sds_types.specs.declared.ack.AckRefusal.{AckRefusal}

@@ -1,5 +1,5 @@
 -- No counter passes its end: a call that would make an act past it makes none.
-use Rattle.std.specs.Prelude.{ℕ, Bool, true, false, ◌||◌, nat_lt, if◌then◌else◌, Option, None, Some, option_and_then, Result, Ok, Err}
+use Rattle.std.specs.Prelude.{Bool, true, false, ◌||◌, nat_lt, if◌then◌else◌, Option, None, Some, Result, Err}
 use Rattle.std.specs.Option.{option_map_or}
 use Rattle.sds_types.specs.Limits.{most_count}
 use Rattle.sds_types.specs.declared.config.Config.{Config}

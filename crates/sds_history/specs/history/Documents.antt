@@ -1,5 +1,5 @@
 -- The batches of a node as documents.
-use Rattle.std.specs.Prelude.{ℕ, Bool, ◌==◌, List, [], Option}
+use Rattle.std.specs.Prelude.{ℕ, ◌==◌, List, [], Option}
 use Rattle.std.specs.List.{find, filter_map, flat_map}
 use Rattle.std.specs.Option.{option_map_or}
 use Rattle.sds_value.specs.declared.kind.Binary.TheVariants.{Base64}

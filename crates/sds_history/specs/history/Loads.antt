@@ -1,5 +1,5 @@
 -- What a node answers to a batch that a peer sent, and the act that it makes.
-use Rattle.std.specs.Prelude.{ℕ, ◌+◌, Bool, true, false, ◌&&◌, ◌==◌, not, nat_lt, nat_le, if◌then◌else◌, List, Option, None, Some, Result, Ok, Err}
+use Rattle.std.specs.Prelude.{ℕ, ◌+◌, Bool, false, ◌&&◌, ◌==◌, nat_lt, nat_le, if◌then◌else◌, List, Option, None, Some, Result, Ok, Err}
 use Rattle.std.specs.Option.{option_map_or}
 use Rattle.std.specs.Str.{bytes_eq}
 use Rattle.sds_types.specs.Rules.{number_of}
@@ -12,7 +12,6 @@ use Rattle.sds_types.specs.declared.load_answer.PeerRefusal.{PeerRefusal}
 use Rattle.sds_types.specs.declared.load_answer.PeerRefusal.TheVariants.{UnknownNode, Fault}
 use Rattle.sds_types.specs.declared.peer.KeptPeer.{KeptPeer}
 use Rattle.sds_types.specs.declared.prepared.Prepared.{Prepared}
-use Rattle.sds_types.specs.declared.rule.Rule.{Rule}
 use Rattle.sds_types.specs.declared.rule.Rule.TheVariants.{UnknownChannel}
 use Rattle.sds_trade.specs.rules.Outcomes.{outcome_of_batch}
 use Rattle.sds_trade.specs.rules.Runs.{RunEnd}

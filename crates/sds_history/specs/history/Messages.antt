@@ -1,5 +1,5 @@
 -- What a message of a node to a peer holds of each lane.
-use Rattle.std.specs.Prelude.{ℕ, ◌+◌, ◌-◌, Bool, true, ◌&&◌, ◌||◌, ◌==◌, not, nat_le, List, [], ◌∷◌, length, map, take, drop, Option, None, Some, slice_get}
+use Rattle.std.specs.Prelude.{ℕ, ◌+◌, Bool, true, ◌&&◌, ◌||◌, ◌==◌, not, nat_le, List, [], ◌∷◌, length, map, take, drop, slice_get}
 use Rattle.std.specs.List.{filter, flat_map, list_any, position, range_with_len, sum_by}
 use Rattle.std.specs.Option.{option_map_or}
 use Rattle.std.specs.Str.{bytes_eq}
@@ -7,7 +7,6 @@ use Rattle.sds_types.specs.Limits.{most_part_bytes}
 use Rattle.sds_types.specs.declared.batch.OutBatch.{OutBatch}
 use Rattle.sds_types.specs.declared.channel.ChannelDef.{ChannelDef}
 use Rattle.sds_types.specs.declared.config.Config.{Config}
-use Rattle.sds_types.specs.declared.document.BatchDoc.{BatchDoc}
 use Rattle.sds_types.specs.declared.message.MessagePart.{MessagePart}
 use Rattle.sds_batchtext.specs.Writing.{batch_text}
 use Rattle.sds_trade.specs.rules.Batches.{channels_in_order}

@@ -2,7 +2,6 @@
 use Rattle.std.specs.Prelude.{ℕ, Bool, true, false, if◌then◌else◌, List, [], ◌∷◌, map, Option}
 use Rattle.std.specs.Str.{bytes_eq}
 use Rattle.sds_value.specs.declared.row.Peer.{Peer}
-use Rattle.sds_types.specs.declared.peer.KeptPeer.{KeptPeer}
 use Rattle.sds_types.specs.declared.registration.Opening.{Opening}
 use Rattle.sds_types.specs.declared.registration.Stage.{Stage}
 use Rattle.sds_types.specs.declared.registration.Stage.TheVariants.{Waiting, Given, Closed}

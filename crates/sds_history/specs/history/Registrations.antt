@@ -1,13 +1,11 @@
 -- What a node answers to openings, registrations and joins, and the acts that it makes.
 use Rattle.std.specs.Prelude.{ℕ, Bool, true, false, ◌&&◌, ◌||◌, not, nat_le, if◌then◌else◌, List, length, Option, None, Some, is_some, Result, Ok, Err}
-use Rattle.std.specs.Option.{option_map_or}
 use Rattle.std.specs.Str.{bytes_eq}
 use Rattle.sds_value.specs.Binaries.{coded_text}
 use Rattle.sds_value.specs.declared.kind.Binary.TheVariants.{Hex}
 use Rattle.sds_value.specs.declared.row.Peer.{Peer}
 use Rattle.sds_types.specs.Limits.{most_peers}
 use Rattle.sds_types.specs.declared.config.Config.{Config}
-use Rattle.sds_types.specs.declared.peer.KeptPeer.{KeptPeer}
 use Rattle.sds_types.specs.declared.registration.Opening.{Opening}
 use Rattle.sds_types.specs.declared.registration.RegRefusal.{RegRefusal}
 use Rattle.sds_types.specs.declared.registration.RegRefusal.TheVariants.{NotOpen, UnknownGroup, AlreadyOpen, IdTaken, TooManyNodes, Fault}

@@ -1,5 +1,5 @@
 -- What a node answers to a routing run, and the act that it makes.
-use Rattle.std.specs.Prelude.{ℕ, ◌-◌, Bool, nat_lt, Option, Result, Ok}
+use Rattle.std.specs.Prelude.{ℕ, ◌-◌, nat_lt, Option, Result, Ok}
 use Rattle.std.specs.Option.{option_map_or}
 use Rattle.sds_types.specs.declared.config.Config.{Config}
 use Rattle.sds_types.specs.declared.node_fault.NodeFault.{NodeFault}

@@ -1,17 +1,13 @@
 -- The acts with how each ended that ran rows over the tables, the newest first.
-use Rattle.std.specs.Prelude.{ℕ, ◌+◌, List, [], ◌∷◌, length, Option, None, Some, min}
-use Rattle.sds_types.specs.Limits.{most_unrouted_changes}
+use Rattle.std.specs.Prelude.{ℕ, ◌+◌, List, [], ◌∷◌, length, Option, None, Some}
 use Rattle.sds_types.specs.declared.config.Config.{Config}
-use Rattle.sds_types.specs.declared.prepared.Prepared.{Prepared}
 use Rattle.sds_types.specs.declared.row.Change.{Change}
 use Rattle.sds_types.specs.declared.row.TableRow.{TableRow}
 use Rattle.sds_trade.specs.rules.Captured.{Done, changes_of}
-use Rattle.sds_trade.specs.rules.Outcomes.{outcome_of_batch}
-use Rattle.sds_trade.specs.rules.OwnWrites.{outcome_of_write}
 use Rattle.sds_trade.specs.rules.Runs.{RunEnd}
 use Rattle.sds_trade.specs.rules.Runs.RunEnd.{Made, Ignored, Refused}
 use Rattle.sds_history.specs.history.Acts.{Act, State}
-use Rattle.sds_history.specs.history.Acts.Act.{Opened, Joined, Confirmed, Wrote, Routed, Loaded, Erred, Acked}
+use Rattle.sds_history.specs.history.Acts.Act.{Wrote, Routed, Loaded}
 
 -- an act, and how its rows ended if it is a write or a load
 pub record Run : Type 0 where

@@ -1,7 +1,6 @@
 -- What acks said of each batch.
-use Rattle.std.specs.Prelude.{ℕ, Bool, true, false, ◌&&◌, ◌||◌, ◌==◌, nat_le, if◌then◌else◌, List, [], ◌∷◌, ◌++◌, map, Option, None, Some, is_some, not}
-use Rattle.std.specs.List.{find, filter, list_any, flat_map}
-use Rattle.std.specs.Option.{option_map_or}
+use Rattle.std.specs.Prelude.{ℕ, Bool, true, false, ◌&&◌, ◌||◌, ◌==◌, nat_le, if◌then◌else◌, List, [], ◌∷◌, map, Option, None, Some, is_some, not}
+use Rattle.std.specs.List.{filter, list_any, flat_map}
 use Rattle.std.specs.Str.{bytes_eq}
 use Rattle.sds_types.specs.declared.ack.Ack.{Ack}
 use Rattle.sds_types.specs.declared.batch.OutBatch.{OutBatch}

@@ -1,5 +1,5 @@
 -- The state that a history leaves, and that of a new node.
-use Rattle.std.specs.Prelude.{ℕ, ◌+◌, List, [], ◌++◌, ◌∷◌, length}
+use Rattle.std.specs.Prelude.{◌+◌, List, [], ◌++◌, ◌∷◌, length}
 use Rattle.sds_value.specs.declared.row.Peer.{Peer}
 use Rattle.sds_types.specs.declared.config.Config.{Config}
 use Rattle.sds_types.specs.declared.counts.Counts.{Counts}

@@ -1,10 +1,8 @@
 -- What a node answers to a writer's numbered write, and the act that it makes.
-use Rattle.std.specs.Prelude.{ℕ, ◌+◌, ◌-◌, ◌==◌, nat_lt, nat_le, if◌then◌else◌, List, length, Option, None, Some, min, Result, Ok, Err}
-use Rattle.std.specs.Option.{option_map_or}
-use Rattle.sds_types.specs.Limits.{most_unrouted_changes, most_write_rows}
+use Rattle.std.specs.Prelude.{ℕ, ◌+◌, ◌-◌, ◌==◌, nat_lt, if◌then◌else◌, List, length, Option, None, Some, Result, Ok, Err}
+use Rattle.sds_types.specs.Limits.{most_write_rows}
 use Rattle.sds_types.specs.declared.config.Config.{Config}
 use Rattle.sds_types.specs.declared.counts.WriterLast.{WriterLast}
-use Rattle.sds_types.specs.declared.node_fault.NodeFault.{NodeFault}
 use Rattle.sds_types.specs.declared.tx_row.TxRow.{TxRow}
 use Rattle.sds_types.specs.declared.write_answer.WriteRefusal.{WriteRefusal}
 use Rattle.sds_types.specs.declared.write_answer.WriteRefusal.TheVariants.{Broken, OldNumber, GapNumber, TooManyRows, Fault}

@@ -1,6 +1,5 @@
 -- A reply comes back: the receiver is confirmed, and the acks are taken.
-use Rattle.std.specs.Prelude.{ℕ, if◌then◌else◌, List, Option, None, Some, Result, Ok, Err}
-use Rattle.sds_types.specs.declared.ack.Ack.{Ack}
+use Rattle.std.specs.Prelude.{ℕ, if◌then◌else◌, Option, None, Some, Result, Ok, Err}
 use Rattle.sds_types.specs.declared.ack.AckRefusal.{AckRefusal}
 use Rattle.sds_types.specs.declared.ack.AckRefusal.TheVariants.{UnknownNode, Fault}
 use Rattle.sds_types.specs.declared.config.Config.{Config}

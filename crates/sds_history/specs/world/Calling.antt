@@ -1,6 +1,6 @@
 -- A call at a node of a world: its answer, and the node after it. The act that it makes takes the
 -- first of the node's faults. The call then fails, and the act stands or it doesn't.
-use Rattle.std.specs.Prelude.{ℕ, Bool, true, false, if◌then◌else◌, List, [], ◌∷◌, ◌++◌, Option, None, Some, Result, Ok, Err}
+use Rattle.std.specs.Prelude.{Bool, true, false, if◌then◌else◌, List, [], ◌∷◌, ◌++◌, Option, None, Some, Result, Err}
 use Rattle.sds_types.specs.declared.node_fault.NodeFault.{NodeFault}
 use Rattle.sds_types.specs.declared.node_fault.NodeFault.TheVariants.{Keeper}
 use Rattle.sds_history.specs.history.Acts.{Act, History}

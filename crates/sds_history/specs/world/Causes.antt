@@ -1,9 +1,6 @@
 -- Why a line may not stand where it does.
 use Rattle.std.specs.Prelude.{ℕ, Bool, true, false, ◌&&◌, ◌||◌, not, nat_le, if◌then◌else◌, List, length, Option, None, Some, is_some}
-use Rattle.std.specs.List.{list_all, list_any}
-use Rattle.std.specs.Str.{bytes_eq}
-use Rattle.sds_value.specs.declared.row.Peer.{Peer}
-use Rattle.sds_types.specs.Limits.{most_peers}
+use Rattle.std.specs.List.{list_all}
 use Rattle.sds_types.specs.declared.config.Config.{Config}
 use Rattle.sds_types.specs.declared.scenario.ScenarioCause.{ScenarioCause}
 use Rattle.sds_types.specs.declared.scenario.ScenarioCause.TheVariants.{BadForm, UnknownName, Twice}

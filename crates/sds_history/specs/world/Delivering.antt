@@ -1,6 +1,6 @@
 -- A message is delivered: its sender is confirmed, its batches are loaded one after another, and a
 -- reply is made.
-use Rattle.std.specs.Prelude.{ℕ, ◌+◌, Bool, true, false, ◌||◌, ◌==◌, if◌then◌else◌, List, [], ◌∷◌, ◌++◌, length, map, Option, None, Some, is_some, Result, Ok, Err}
+use Rattle.std.specs.Prelude.{ℕ, ◌+◌, Bool, ◌||◌, ◌==◌, if◌then◌else◌, List, [], ◌∷◌, ◌++◌, length, map, Option, None, Some, is_some, Result, Ok, Err}
 use Rattle.std.specs.List.{enumerate_from, filter_map, find, list_any}
 use Rattle.sds_types.specs.Rules.{number_of}
 use Rattle.sds_types.specs.declared.ack.Ack.{Ack}

@@ -1,5 +1,5 @@
 -- A push or a pull: a message is sent, delivered and answered, as far as it goes.
-use Rattle.std.specs.Prelude.{ℕ, Bool, true, false, ◌&&◌, ◌==◌, if◌then◌else◌, List, [], ◌∷◌, ◌++◌, Option, None, Some, Result, Ok, Err}
+use Rattle.std.specs.Prelude.{ℕ, Bool, true, false, ◌==◌, if◌then◌else◌, List, [], ◌∷◌, ◌++◌, Option, None, Some, Ok}
 use Rattle.std.specs.Option.{option_map_or}
 use Rattle.sds_types.specs.declared.config.Config.{Config}
 use Rattle.sds_types.specs.declared.peer.KeptPeer.{KeptPeer}
@@ -11,7 +11,7 @@ use Rattle.sds_history.specs.world.Delivering.{delivered}
 use Rattle.sds_history.specs.world.Happened.{Happened, Told, tells, quiet}
 use Rattle.sds_history.specs.world.Happened.Told.{Sending, Delivering, NoPush, NoPull}
 use Rattle.sds_history.specs.world.Sending.{sent}
-use Rattle.sds_history.specs.world.Worlds.{Node, World, message_of, node_of, reply_of, state_in}
+use Rattle.sds_history.specs.world.Worlds.{Node, World, message_of, reply_of, state_in}
 
 -- a link of the kind leads from a node to a peer
 abbrev pub may_exchange : (List ℕ → List ℕ → Bool) → State → List ℕ → Bool

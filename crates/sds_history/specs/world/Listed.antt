@@ -1,8 +1,7 @@
 -- The batches of a node as a person sees them.
-use Rattle.std.specs.Prelude.{ℕ, Bool, true, false, List, [], ◌∷◌, ◌++◌, length, map, codes, Option, None, Some}
+use Rattle.std.specs.Prelude.{ℕ, Bool, true, false, List, [], ◌∷◌, ◌++◌, length, codes, Option, None, Some}
 use Rattle.std.specs.Fmt.{decimal}
-use Rattle.std.specs.List.{filter, filter_map, find, flat_map}
-use Rattle.std.specs.Option.{option_map_or}
+use Rattle.std.specs.List.{filter_map, find, flat_map}
 use Rattle.std.specs.Str.{encode_utf8_all}
 use Rattle.sds_types.specs.Rules.{number_of}
 use Rattle.sds_types.specs.Standings.{name_of}

@@ -1,5 +1,5 @@
 -- The order in which the batches of a message are delivered.
-use Rattle.std.specs.Prelude.{ℕ, Bool, ◌&&◌, ◌==◌, nat_le, nat_lt, List, ◌++◌, length, take, Option, slice_get}
+use Rattle.std.specs.Prelude.{ℕ, Bool, ◌==◌, nat_le, nat_lt, List, ◌++◌, length, take, Option, slice_get}
 use Rattle.std.specs.List.{enumerate_from, filter, filter_map}
 use Rattle.sds_types.specs.declared.batch.OutBatch.{OutBatch}
 

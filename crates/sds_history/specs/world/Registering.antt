@@ -3,7 +3,6 @@ use Rattle.std.specs.Prelude.{ℕ, List, Option, None, Some, Result, Ok, Err}
 use Rattle.sds_types.specs.declared.config.Config.{Config}
 use Rattle.sds_types.specs.declared.registration.RegRefusal.{RegRefusal}
 use Rattle.sds_types.specs.declared.registration.RegRefusal.TheVariants.{Fault}
-use Rattle.sds_history.specs.history.Acts.{State}
 use Rattle.sds_history.specs.history.Joins.{join_act, join_answer}
 use Rattle.sds_history.specs.history.Registrations.{open_act, open_answer, register_act, register_answer}
 use Rattle.sds_history.specs.world.Calling.{Called, call}

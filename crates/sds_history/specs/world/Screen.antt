@@ -1,7 +1,6 @@
 -- From a configuration, the noise and a scenario to its screen, and the first line that may not stand.
-use Rattle.std.specs.Prelude.{ℕ, ◌-◌, Bool, true, false, not, ◌==◌, nat_lt, is_some, if◌then◌else◌, List, [], ◌∷◌, ◌++◌, length, take, Option, None, Some}
+use Rattle.std.specs.Prelude.{ℕ, ◌-◌, Bool, not, ◌==◌, nat_lt, is_some, if◌then◌else◌, List, [], ◌∷◌, ◌++◌, length, take, Option, None, Some}
 use Rattle.std.specs.List.{flat_map, suffix_len}
-use Rattle.std.specs.Option.{option_map_or}
 use Rattle.sds_line.specs.declared.line.Line.{Line}
 use Rattle.sds_line.specs.Splitting.{Split, lines_in}
 use Rattle.sds_types.specs.Limits.{most_input_bytes}

@@ -1,9 +1,8 @@
 -- A node makes a message to a peer.
-use Rattle.std.specs.Prelude.{ℕ, ◌+◌, Bool, false, if◌then◌else◌, List, [], ◌∷◌, ◌++◌, length, Option, None, Some, Result, Ok, Err}
+use Rattle.std.specs.Prelude.{ℕ, ◌+◌, Bool, false, if◌then◌else◌, List, [], ◌∷◌, ◌++◌, length, Option, None, Some, Ok, Err}
 use Rattle.std.specs.List.{sum_by}
 use Rattle.std.specs.Option.{option_map_or}
 use Rattle.sds_types.specs.declared.config.Config.{Config}
-use Rattle.sds_types.specs.declared.message.Message.{Message}
 use Rattle.sds_types.specs.declared.message.MessagePart.{MessagePart}
 use Rattle.sds_types.specs.declared.peer.KeptPeer.{KeptPeer}
 use Rattle.sds_types.specs.declared.sync.SyncRefusal.TheVariants.{NoWay}

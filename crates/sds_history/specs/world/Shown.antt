@@ -1,7 +1,6 @@
 -- The tables of a node as a person sees them, and the bytes of a message.
-use Rattle.std.specs.Prelude.{ℕ, ◌==◌, List, ◌++◌, map, codes, Option}
+use Rattle.std.specs.Prelude.{ℕ, ◌==◌, List, ◌++◌, map, codes}
 use Rattle.std.specs.List.{enumerate_from, filter, flat_map, zip}
-use Rattle.std.specs.Option.{option_map_or}
 use Rattle.std.specs.Str.{encode_utf8_all}
 use Rattle.sds_batchtext.specs.Writing.{text_of}
 use Rattle.sds_line.specs.Written.{written_line}
@@ -9,7 +8,6 @@ use Rattle.sds_value.specs.declared.kind.Value.{Value}
 use Rattle.sds_value.specs.declared.row.Field.{Field}
 use Rattle.sds_value.specs.declared.table.ColumnDef.{ColumnDef}
 use Rattle.sds_value.specs.declared.table.TableDef.{TableDef}
-use Rattle.sds_types.specs.declared.batch.OutBatch.{OutBatch}
 use Rattle.sds_types.specs.declared.config.Config.{Config}
 use Rattle.sds_types.specs.declared.document.BatchDoc.{BatchDoc}
 use Rattle.sds_types.specs.declared.message.Message.{Message}

@@ -3,7 +3,6 @@ use Rattle.std.specs.Prelude.{ℕ, List, [], ◌∷◌, ◌++◌, map, Result, O
 use Rattle.std.specs.Fmt.{decimal}
 use Rattle.std.specs.List.{join_with_byte}
 use Rattle.std.specs.Option.{option_map_or}
-use Rattle.std.specs.Str.{encode_utf8_all}
 use Rattle.sds_types.specs.Registrations.{reg_number_of}
 use Rattle.sds_types.specs.Rules.{number_of}
 use Rattle.sds_types.specs.declared.ack.Ack.{Ack}
