@@ -16,3 +16,7 @@ pub mod Shown
 pub mod Listed
 pub mod Lines
 pub mod Screen
+pub mod WorldAt
+pub mod LaneParts
+pub mod RoutedOnce
+pub mod InStep
