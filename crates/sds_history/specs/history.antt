@@ -10,6 +10,10 @@ pub mod Made
 pub mod Standings
 pub mod Lanes
 pub mod States
+pub mod Records
+pub mod Image
+pub mod SoundParts
+pub mod SoundStates
 pub mod Counters
 pub mod Writes
 pub mod Routes

@@ -16,12 +16,9 @@ use Rattle.sds_trade.specs.rules.RoutedValues.{field_of}
 use Rattle.sds_history.specs.history.Acts.{State}
 use Rattle.sds_history.specs.history.Documents.{doc_of_batch}
 use Rattle.sds_history.specs.history.Messages.{batches_in_parts}
+use Rattle.sds_history.specs.history.Records.{row_fields}
 
 -- a row: its values as they are printed
-abbrev pub row_fields : List ColumnDef → List Value → List Field
-row_fields columns values =
-    map (λ (at : ColumnDef × Value). field_of at.0.kind at.1) (zip columns values)
-
 abbrev pub row_text : List ColumnDef → TableRow → List ℕ
 row_text columns row = written_line (row_fields columns row.row.0) ++ codes "\n"
 
