@@ -4,7 +4,7 @@ pub mod Calling
 pub mod Happened
 pub mod Registering
 pub mod Sending
-pub mod Orders
+pub mod DeliverOrder
 pub mod Delivering
 pub mod Answering
 pub mod Exchanging

@@ -4,8 +4,8 @@ use Rattle.std.specs.Option.{option_or}
 use Rattle.sds_value.specs.declared.row.Field.{Field}
 use Rattle.sds_types.specs.declared.scenario.ScenarioLine.{ScenarioLine}
 use Rattle.sds_types.specs.declared.scenario.ScenarioLine.TheVariants.{Node, Open, Register, Write, Row, End, Route, Send, Deliver, Answer, Push, Pull, Wire, Show, Batches, Crash, Fault}
-use Rattle.sds_scenario.specs.Rows.{row_of}
-use Rattle.sds_scenario.specs.Words.{name_in, names_in, number_in, is_word}
+use Rattle.sds_scenario.specs.Rows.{row_line}
+use Rattle.sds_scenario.specs.Words.{as_name, as_names, as_number, is_word}
 
 -- lines of one name
 abbrev pub line_of_name : Field → List ℕ → Option ScenarioLine
@@ -64,18 +64,18 @@ fault_of place stands = None
 -- lines of a message or a reply
 abbrev pub line_of_number : Field → Field → Option ScenarioLine
 line_of_number word field =
-    if is_word word (codes "answer") then option_map Answer (number_in field)
-    else (if is_word word (codes "wire") then option_map Wire (number_in field) else None)
+    if is_word word (codes "answer") then option_map Answer (as_number field)
+    else (if is_word word (codes "wire") then option_map Wire (as_number field) else None)
 
 -- lines whose fields aren't names alone
 abbrev pub line_of_fields : List Field → Option ScenarioLine
 line_of_fields (word ∷ []) = if is_word word (codes "end") then Some End else None
 line_of_fields (word ∷ (field ∷ [])) = line_of_number word field
 line_of_fields (word ∷ (node ∷ (stands ∷ []))) =
-    if is_word word (codes "fault") then fault_of (name_in node) (stands_of stands) else None
+    if is_word word (codes "fault") then fault_of (as_name node) (stands_of stands) else None
 line_of_fields (word ∷ (node ∷ (writer ∷ (number ∷ [])))) =
     if is_word word (codes "write")
-    then write_of (name_in node) (name_in writer) (number_in number) else None
+    then write_of (as_name node) (as_name writer) (as_number number) else None
 line_of_fields fields = None
 
 -- `deliver` takes any count of channels, and so does `send`
@@ -83,15 +83,15 @@ abbrev pub line_of_channels : List Field → Option ScenarioLine
 line_of_channels [] = None
 line_of_channels (word ∷ []) = None
 line_of_channels (word ∷ (field ∷ fields)) =
-    if is_word word (codes "deliver") then deliver_of (number_in field) (names_in fields)
+    if is_word word (codes "deliver") then deliver_of (as_number field) (as_names fields)
     else (if is_word word (codes "send")
-    then option_and_then send_of (names_in (field ∷ fields)) else None)
+    then option_and_then send_of (as_names (field ∷ fields)) else None)
 
 abbrev pub line_of_word : List Field → Option ScenarioLine
 line_of_word [] = None
-line_of_word (word ∷ fields) = option_and_then (line_of_names word) (names_in fields)
+line_of_word (word ∷ fields) = option_and_then (line_of_names word) (as_names fields)
 
 -- what the fields of a line say; none where the line is malformed
 abbrev pub line_of : List Field → Option ScenarioLine
-line_of fields = option_or (option_map Row (row_of fields))
+line_of fields = option_or (option_map Row (row_line fields))
     (option_or (line_of_word fields) (option_or (line_of_fields fields) (line_of_channels fields)))

@@ -8,8 +8,8 @@ use Rattle.sds_types.specs.declared.tx_row.TxRow.{TxRow}
 use Rattle.sds_scenario.specs.Words.{is_word}
 
 -- the event that a directive names
-abbrev pub event_of : Field → Option Event
-event_of word =
+abbrev pub event_named : Field → Option Event
+event_named word =
     if is_word word (codes "insert") then Some Insert
     else (if is_word word (codes "update") then Some Update
     else (if is_word word (codes "delete") then Some Delete else None))
@@ -19,6 +19,6 @@ row_in table fields event = record { event = event; table = table; fields = fiel
 
 -- `insert`, `update` or `delete`, a table, and its fields. The table is any text but null: whether
 -- it names one is judged by the rules on rows
-abbrev pub row_of : List Field → Option TxRow
-row_of (word ∷ (Text table ∷ fields)) = option_map (row_in table fields) (event_of word)
-row_of fields = None
+abbrev pub row_line : List Field → Option TxRow
+row_line (word ∷ (Text table ∷ fields)) = option_map (row_in table fields) (event_named word)
+row_line fields = None

@@ -13,25 +13,25 @@ abbrev pub name_if : Bool → List ℕ → Option (List ℕ)
 name_if true text = Some text
 name_if false text = None
 
-abbrev pub name_in : Field → Option (List ℕ)
-name_in Null = None
-name_in (Text text) = name_if (is_name_text text) text
+abbrev pub as_name : Field → Option (List ℕ)
+as_name Null = None
+as_name (Text text) = name_if (is_name_text text) text
 
 -- the names in fields, if each has one
 abbrev pub with_name : Option (List ℕ) → Option (List (List ℕ)) → Option (List (List ℕ))
 with_name (Some name) (Some names) = Some (name ∷ names)
 with_name name names = None
 
-abbrev pub names_in : List Field → Option (List (List ℕ))
-names_in [] = Some []
-names_in (field ∷ fields) = with_name (name_in field) (names_in fields)
+abbrev pub as_names : List Field → Option (List (List ℕ))
+as_names [] = Some []
+as_names (field ∷ fields) = with_name (as_name field) (as_names fields)
 
 -- the most digits of a number
 abbrev pub most_digits : ℕ
 most_digits = 19
 
-abbrev pub is_number : List ℕ → Bool
-is_number text =
+abbrev pub is_digits : List ℕ → Bool
+is_digits text =
     nat_le 1 (length text) && (nat_le (length text) most_digits && list_all is_ascii_digit text)
 
 -- the number of 1 to 19 decimal digits
@@ -39,9 +39,9 @@ abbrev pub number_if : Bool → List ℕ → Option ℕ
 number_if true text = Some (digits_value text)
 number_if false text = None
 
-abbrev pub number_in : Field → Option ℕ
-number_in Null = None
-number_in (Text text) = number_if (is_number text) text
+abbrev pub as_number : Field → Option ℕ
+as_number Null = None
+as_number (Text text) = number_if (is_digits text) text
 
 -- a field is a word
 abbrev pub is_word : Field → List ℕ → Bool

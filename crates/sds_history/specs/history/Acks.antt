@@ -12,7 +12,7 @@ use Rattle.sds_types.specs.declared.config.Config.{Config}
 use Rattle.sds_history.specs.history.Acts.{Act, State}
 use Rattle.sds_history.specs.history.Acts.Act.{Acked}
 use Rattle.sds_history.specs.history.Counters.{act_if, answer_within, within}
-use Rattle.sds_history.specs.history.Peers.{peer_of}
+use Rattle.sds_history.specs.history.Peers.{kept_peer}
 use Rattle.sds_history.specs.history.States.{state_after}
 
 -- an ack names a batch of this node to the peer
@@ -45,7 +45,7 @@ known_answer config state from acks (Some ack) = Err (UnknownBatch ack.batch)
 -- the answer but for the counters
 abbrev pub own_acks_answer : Config → State → List ℕ → List Ack → Result ℕ AckRefusal
 own_acks_answer config state from acks =
-    if is_some (peer_of state.peers from)
+    if is_some (kept_peer state.peers from)
     then known_answer config state from acks (unknown_ack state from acks) else Err UnknownNode
 
 abbrev pub acks_by : Act → Result ℕ AckRefusal → Option Act

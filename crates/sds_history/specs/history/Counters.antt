@@ -14,11 +14,11 @@ is_past counts = nat_lt most_count counts.acts || (nat_lt most_count counts.last
     || (nat_lt most_count counts.last_batch || nat_lt most_count counts.last_tx))
 
 -- a counter would pass its end by an act
-abbrev pub passes : Config → State → Act → Bool
-passes config state act = is_past (state_after config state act).counts
+abbrev pub act_passes : Config → State → Act → Bool
+act_passes config state act = is_past (state_after config state act).counts
 
 abbrev pub would_pass : Config → State → Option Act → Bool
-would_pass config state act = option_map_or (passes config state) act false
+would_pass config state act = option_map_or (act_passes config state) act false
 
 -- the act that a call makes of the one that it is about to make
 abbrev pub within : Config → State → Option Act → Option Act

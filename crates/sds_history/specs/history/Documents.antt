@@ -13,12 +13,12 @@ use Rattle.sds_types.specs.declared.way.Way.{Way}
 use Rattle.sds_trade.specs.rules.Transforms.{extracted_rows}
 use Rattle.sds_history.specs.history.Acts.{State}
 use Rattle.sds_history.specs.history.Lanes.{channel_name}
-use Rattle.sds_history.specs.history.Peers.{peer_of}
+use Rattle.sds_history.specs.history.Peers.{kept_peer}
 
 -- the group of a peer
 abbrev pub group_of_peer : State → List ℕ → List ℕ
 group_of_peer state peer =
-    option_map_or (λ (kept : KeptPeer). kept.peer.group) (peer_of state.peers peer) []
+    option_map_or (λ (kept : KeptPeer). kept.peer.group) (kept_peer state.peers peer) []
 
 -- the ways from a node to a peer, and from a peer to it
 abbrev pub way_to : State → List ℕ → Way
@@ -43,8 +43,8 @@ change_of_number state number =
     find (λ (change : Change). change.id == number) state.changes
 
 -- the rows of a batch: each change by the transforms of the way
-abbrev pub rows_of : Config → State → OutBatch → List DocRow
-rows_of config state batch =
+abbrev pub batch_rows : Config → State → OutBatch → List DocRow
+batch_rows config state batch =
     flat_map (extracted_rows config (way_to state batch.peer))
     (filter_map (change_of_number state) batch.changes)
 
@@ -54,5 +54,5 @@ doc_of_batch config state batch = record {
   channel = channel_name config batch.channel;
   batch = batch.id;
   binary = Base64;
-  rows = rows_of config state batch;
+  rows = batch_rows config state batch;
 }

@@ -10,25 +10,25 @@ use Rattle.sds_types.specs.declared.registration.RegRefusal.TheVariants.{Unknown
 use Rattle.sds_history.specs.history.Acts.{Act, State}
 use Rattle.sds_history.specs.history.Counters.{answer_within, within}
 use Rattle.sds_history.specs.history.Links.{are_linked}
-use Rattle.sds_history.specs.history.Peers.{peer_of}
+use Rattle.sds_history.specs.history.Peers.{kept_peer}
 use Rattle.sds_history.specs.history.Registrations.{is_full, join_by}
 
 -- a peer is kept with these values: its group, its external id and its token
-abbrev pub has_values : Peer → List ℕ → KeptPeer → Bool
-has_values other token kept = bytes_eq kept.peer.group other.group
+abbrev pub has_peer_values : Peer → List ℕ → KeptPeer → Bool
+has_peer_values other token kept = bytes_eq kept.peer.group other.group
     && (bytes_eq kept.peer.external other.external && bytes_eq kept.token token)
 
 -- an id is the node's, or a peer's with other values
 abbrev pub is_another : State → Peer → List ℕ → Bool
 is_another state other token = bytes_eq other.id state.me.id
-    || option_map_or (λ (kept : KeptPeer). not (has_values other token kept))
-    (peer_of state.peers other.id) false
+    || option_map_or (λ (kept : KeptPeer). not (has_peer_values other token kept))
+    (kept_peer state.peers other.id) false
 
 abbrev pub own_join_answer : Config → State → Peer → List ℕ → Result (List ℕ) RegRefusal
 own_join_answer config state other token =
     if not (are_linked config other.group state.me.group) then Err UnknownGroup
     else (if is_another state other token then Err IdTaken
-    else (if not (is_some (peer_of state.peers other.id)) && is_full state then Err TooManyNodes
+    else (if not (is_some (kept_peer state.peers other.id)) && is_full state then Err TooManyNodes
     else Ok token))
 
 abbrev pub next_join : Config → State → Peer → List ℕ → Option Act

@@ -8,13 +8,13 @@ use Rattle.sds_types.specs.declared.link.Action.TheVariants.{P, W}
 use Rattle.sds_types.specs.declared.link.LinkDef.{LinkDef}
 use Rattle.sds_trade.specs.rules.Places.{group_name}
 
-abbrev pub leads : Config → List ℕ → List ℕ → LinkDef → Bool
-leads config from to link = bytes_eq (group_name config.groups link.source) from
+abbrev pub link_leads : Config → List ℕ → List ℕ → LinkDef → Bool
+link_leads config from to link = bytes_eq (group_name config.groups link.source) from
     && bytes_eq (group_name config.groups link.target) to
 
 -- a link leads from one group to another
 abbrev pub has_way : Config → List ℕ → List ℕ → Bool
-has_way config from to = list_any (leads config from to) config.links
+has_way config from to = list_any (link_leads config from to) config.links
 
 -- a link stands between two groups, whichever way it leads
 abbrev pub are_linked : Config → List ℕ → List ℕ → Bool
@@ -27,7 +27,7 @@ pushes W = false
 
 abbrev pub has_push : Config → List ℕ → List ℕ → Bool
 has_push config from to =
-    list_any (λ (link : LinkDef). pushes link.action && leads config from to link) config.links
+    list_any (λ (link : LinkDef). pushes link.action && link_leads config from to link) config.links
 
 abbrev pub waits : Action → Bool
 waits P = false
@@ -35,4 +35,4 @@ waits W = true
 
 abbrev pub has_pull : Config → List ℕ → List ℕ → Bool
 has_pull config from to =
-    list_any (λ (link : LinkDef). waits link.action && leads config from to link) config.links
+    list_any (λ (link : LinkDef). waits link.action && link_leads config from to link) config.links

@@ -20,13 +20,13 @@ use Rattle.sds_history.specs.history.Acts.{Act, State}
 use Rattle.sds_history.specs.history.Acts.Act.{Loaded, Erred}
 use Rattle.sds_history.specs.history.Counters.{answer_within, within}
 use Rattle.sds_history.specs.history.Lanes.{lane_of}
-use Rattle.sds_history.specs.history.Peers.{peer_of}
+use Rattle.sds_history.specs.history.Peers.{kept_peer}
 use Rattle.sds_history.specs.history.Writes.{waiting_in}
 
 -- a peer of the batch's sender group is kept
 abbrev pub knows_sender : State → List ℕ → Prepared → Bool
 knows_sender state from batch = option_map_or
-    (λ (kept : KeptPeer). bytes_eq kept.peer.group batch.from_group) (peer_of state.peers from)
+    (λ (kept : KeptPeer). bytes_eq kept.peer.group batch.from_group) (kept_peer state.peers from)
     false
 
 -- the answer by how the rows end; a load's place is its act's number

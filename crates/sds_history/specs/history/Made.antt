@@ -35,13 +35,13 @@ next_batches config opening first runs = map (out_batch (peers_at opening runs))
     (batches_of config first (routed_changes config opening.me (tables_after opening runs)
     (peers_at opening runs) (unrouted_after config opening runs)))
 
-abbrev pub made_by : Config → State → Act → List Run → List OutBatch → List OutBatch
-made_by config opening Routed older made =
+abbrev pub batches_by : Config → State → Act → List Run → List OutBatch → List OutBatch
+batches_by config opening Routed older made =
     made ++ next_batches config opening (opening.counts.last_batch + length made + 1) older
-made_by config opening act older made = made
+batches_by config opening act older made = made
 
 -- the batches made since the opening
 abbrev pub made_after : Config → State → List Run → List OutBatch
 made_after config opening [] = []
 made_after config opening (run ∷ older) =
-    made_by config opening run.act older (made_after config opening older)
+    batches_by config opening run.act older (made_after config opening older)

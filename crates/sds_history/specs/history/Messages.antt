@@ -40,8 +40,8 @@ is_last most batches place = place + 1 == most
 abbrev pub bytes_of : Config → State → OutBatch → ℕ
 bytes_of config state batch = length (batch_text (doc_of_batch config state batch))
 
-abbrev pub is_long : Config → State → List OutBatch → ℕ → Bool
-is_long config state batches place =
+abbrev pub fills_part : Config → State → List OutBatch → ℕ → Bool
+fills_part config state batches place =
     nat_le most_part_bytes (sum_by (bytes_of config state) (take (place + 1) batches))
 
 -- how many batches there are up to the first that ends a part
@@ -61,7 +61,7 @@ message_channels config channels = filter (is_wanted channels) (channels_in_orde
 -- what a message holds of a lane
 abbrev pub ends_part : Config → State → ℕ → List OutBatch → ℕ → Bool
 ends_part config state most batches place =
-    is_last most batches place || is_long config state batches place
+    is_last most batches place || fills_part config state batches place
 
 abbrev pub part_of : Config → State → List ℕ → ℕ × ChannelDef → MessagePart
 part_of config state to at = let batches = lane_waiting state to at.0 in record {

@@ -17,13 +17,13 @@ abbrev pub opening_of : List Opening → List ℕ → List ℕ → Option Openin
 opening_of openings group external = item_at opening_key (pair_key group external) openings
 
 -- an opening that is a child's is given to it
-abbrev pub is_for : Peer → Opening → Bool
-is_for peer opening =
+abbrev pub is_opening_of : Peer → Opening → Bool
+is_opening_of peer opening =
     bytes_eq (opening_key opening) (pair_key peer.group peer.external)
 
 abbrev pub given_to : Peer → Opening → Opening
 given_to peer opening =
-    if is_for peer opening then record opening { stage = Given peer.id } else opening
+    if is_opening_of peer opening then record opening { stage = Given peer.id } else opening
 
 abbrev pub given_if : Bool → Peer → List Opening → List Opening
 given_if true peer openings = map (given_to peer) openings

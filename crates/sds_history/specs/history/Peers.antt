@@ -19,5 +19,5 @@ peers_after peers [] = peers
 peers_after peers (act ∷ older) = peers_by act (peers_after peers older)
 
 -- the peer of an id
-abbrev pub peer_of : List KeptPeer → List ℕ → Option KeptPeer
-peer_of peers id = item_at peer_key (encode_utf8_all id) peers
+abbrev pub kept_peer : List KeptPeer → List ℕ → Option KeptPeer
+kept_peer peers id = item_at peer_key (encode_utf8_all id) peers

@@ -1,5 +1,5 @@
 -- The records that a node keeps of each part of its state.
-use Rattle.std.specs.Prelude.{ℕ, ◌-◌, ◌==◌, Bool, true, false, if◌then◌else◌, List, [], ◌∷◌, ◌++◌, length, map, replicate, codes, Option, None, Some, unwrap_or, slice_get}
+use Rattle.std.specs.Prelude.{ℕ, ◌-◌, Bool, true, false, List, [], ◌∷◌, ◌++◌, length, map, replicate, codes, Option, None, Some, slice_get}
 use Rattle.std.specs.Fmt.{decimal}
 use Rattle.std.specs.List.{zip}
 use Rattle.std.specs.Option.{option_map_or}
@@ -94,20 +94,20 @@ abbrev pub key_columns : List ColumnDef → List ℕ → List ColumnDef
 key_columns columns [] = []
 key_columns columns (place ∷ places) = key_column columns place ++ key_columns columns places
 
-abbrev pub key_text : Config → TableRow → List ℕ
-key_text config row = written_line (row_fields
+abbrev pub row_key : Config → TableRow → List ℕ
+row_key config row = written_line (row_fields
     (key_columns (columns_at config.tables row.table) (key_places config.tables row.table))
     (key_of config.tables row.table row.row).0)
 
 abbrev pub row_record : Config → TableRow → Record
 row_record config row = record_of (codes "t/"
     ++ (encode_utf8_all (table_name config.tables row.table)
-    ++ (codes "/" ++ key_text config row)))
+    ++ (codes "/" ++ row_key config row)))
     (row_fields (columns_at config.tables row.table) row.row.0)
 
 -- numbers in keys have 20 digits, so that they ascend as the numbers do
-abbrev pub padded : ℕ → List ℕ
-padded number = replicate (20 - length (decimal number)) 48 ++ decimal number
+abbrev pub id_text : ℕ → List ℕ
+id_text number = replicate (20 - length (decimal number)) 48 ++ decimal number
 
 -- a change: its new values where it leaves a row, then its old values where it took one
 abbrev pub event_word : Event → List ℕ
@@ -120,7 +120,7 @@ side_fields columns side = option_map_or (λ (row : Row). row_fields columns row
 
 abbrev pub change_record : Config → Change → Record
 change_record config change = let columns = columns_at config.tables change.table in
-    record_of (codes "d/" ++ padded change.id) (number_field change.tx
+    record_of (codes "d/" ++ id_text change.id) (number_field change.tx
     ∷ (Text (table_name config.tables change.table) ∷ (Text (event_word change.event)
     ∷ (Text (channel_name config change.channel)
     ∷ (option_map_or (λ (source : List ℕ). Text source) change.source Null
@@ -132,7 +132,7 @@ error_fields (standing.Erred row rule) = number_field row ∷ (number_field rule
 error_fields other = Null ∷ (Null ∷ [])
 
 abbrev pub batch_record : Config → OutBatch → Record
-batch_record config batch = record_of (codes "b/" ++ padded batch.id) (Text batch.peer
+batch_record config batch = record_of (codes "b/" ++ id_text batch.id) (Text batch.peer
     ∷ (Text (channel_name config batch.channel) ∷ (Text (name_of batch.standing)
     ∷ (error_fields batch.standing ++ map number_field batch.changes))))
 

@@ -16,7 +16,7 @@ use Rattle.sds_history.specs.history.Acts.Act.{Opened, Joined}
 use Rattle.sds_history.specs.history.Counters.{answer_within, within}
 use Rattle.sds_history.specs.history.Links.{are_linked}
 use Rattle.sds_history.specs.history.Openings.{opening_of, went_to}
-use Rattle.sds_history.specs.history.Peers.{peer_of}
+use Rattle.sds_history.specs.history.Peers.{kept_peer}
 
 -- OPEN. The token is the noise in hexadecimal digits
 abbrev pub token_of : List ℕ → List ℕ
@@ -62,14 +62,14 @@ is_closed stage = false
 -- an id is the node's, or a peer's to which the opening wasn't given, or the opening went to another
 abbrev pub is_taken : State → Opening → List ℕ → Bool
 is_taken state opening id = bytes_eq id state.me.id
-    || ((is_some (peer_of state.peers id) && not (went_to id opening.stage))
+    || ((is_some (kept_peer state.peers id) && not (went_to id opening.stage))
     || not (may_have id opening.stage))
 
 abbrev pub given_answer : State → Peer → Opening → Result (List ℕ) RegRefusal
 given_answer state asks opening =
     if is_closed opening.stage then Err NotOpen
     else (if is_taken state opening asks.id then Err IdTaken
-    else (if not (is_some (peer_of state.peers asks.id)) && is_full state then Err TooManyNodes
+    else (if not (is_some (kept_peer state.peers asks.id)) && is_full state then Err TooManyNodes
     else Ok opening.token))
 
 abbrev pub own_register_answer : State → Peer → Result (List ℕ) RegRefusal
@@ -80,7 +80,7 @@ own_register_answer state asks = elim (opening_of state.openings asks.group asks
 
 -- the act that keeps a peer with a token, unless it is kept already
 abbrev pub join_by : State → Peer → Bool → Result (List ℕ) RegRefusal → Option Act
-join_by state peer child (Ok token) = if is_some (peer_of state.peers peer.id) then None
+join_by state peer child (Ok token) = if is_some (kept_peer state.peers peer.id) then None
     else Some (Joined (record { peer = peer; token = token; child = child }))
 join_by state peer child (Err refusal) = None
 

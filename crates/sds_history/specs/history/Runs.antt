@@ -48,15 +48,15 @@ last_tx_after opening [] = opening.counts.last_tx
 last_tx_after opening (run ∷ older) = last_tx_after opening older + tx_in run.act
 
 -- the changes that a run captured, of which the first would have this number
-abbrev pub changes_in : Config → State → ℕ → ℕ → Run → List Change
-changes_in config opening first tx run =
+abbrev pub captured_in : Config → State → ℕ → ℕ → Run → List Change
+captured_in config opening first tx run =
     changes_of config opening.me.group first tx (source_of run.act) (dones_of run.end)
 
 -- how many changes were captured since the opening
 abbrev pub captured_count : Config → State → List Run → ℕ
 captured_count config opening [] = 0
 captured_count config opening (run ∷ older) =
-    captured_count config opening older + length (changes_in config opening 0 0 run)
+    captured_count config opening older + length (captured_in config opening 0 0 run)
 
 abbrev pub last_change_after : Config → State → List Run → ℕ
 last_change_after config opening runs =

@@ -1,6 +1,6 @@
 -- Each part of a sound state by itself: it fits the configuration, and its items ascend.
-use Rattle.std.specs.Prelude.{ℕ, ◌≡◌, ◌≤◌, ◌<◌, Bool, true, false, ◌&&◌, ◌==◌, nat_le, nat_lt, IsTrue, List, [], ◌∷◌, length, map, Option, None, Some, is_some, IfSome}
-use Rattle.std.specs.List.{All, AllPairs, list_all, list_any}
+use Rattle.std.specs.Prelude.{ℕ, ◌≡◌, ◌≤◌, ◌<◌, Bool, true, false, ◌&&◌, ◌==◌, nat_le, nat_lt, IsTrue, List, [], ◌∷◌, length, is_some, IfSome}
+use Rattle.std.specs.List.{AllPairs, list_all, list_any}
 use Rattle.std.specs.Option.{option_map_or}
 use Rattle.sds_value.specs.Names.{is_name_text}
 use Rattle.sds_value.specs.declared.row.Event.{Event}
@@ -12,19 +12,13 @@ use Rattle.sds_types.specs.declared.batch.Standing.{Standing}
 use Rattle.sds_types.specs.declared.batch.Standing.TheVariants as standing
 use Rattle.sds_types.specs.declared.config.Config.{Config}
 use Rattle.sds_types.specs.declared.counts.Counts.{Counts}
-use Rattle.sds_types.specs.declared.counts.WriterLast.{WriterLast}
 use Rattle.sds_types.specs.declared.lane.LaneIn.{LaneIn}
 use Rattle.sds_types.specs.declared.peer.KeptPeer.{KeptPeer}
 use Rattle.sds_types.specs.declared.registration.Opening.{Opening}
 use Rattle.sds_types.specs.declared.row.Change.{Change}
-use Rattle.sds_types.specs.declared.row.Row.{Row}
 use Rattle.sds_trade.specs.rules.Places.{columns_at, is_among}
 use Rattle.sds_trade.specs.rules.Tables.{IsRowOf}
-use Rattle.sds_history.specs.history.Lanes.{lane_key}
-use Rattle.sds_history.specs.history.Openings.{opening_key}
 use Rattle.sds_history.specs.history.Orders.{is_before}
-use Rattle.sds_history.specs.history.Peers.{peer_key}
-use Rattle.sds_history.specs.history.Writers.{writer_key}
 
 -- items that ascend by a key in bytes
 abbrev pub AscendBy : {A : Type 0} → (A → List ℕ) → List A → Type 0
@@ -34,12 +28,12 @@ abbrev pub AscendByNumber : {A : Type 0} → (A → ℕ) → List A → Type 0
 AscendByNumber number items = AllPairs (λ a b. number a < number b) items
 
 -- a token: 32 hexadecimal digits in lower case
-abbrev pub is_digit : ℕ → Bool
-is_digit c = list_any (λ (range : ℕ × ℕ). nat_le range.0 c && nat_le c range.1)
+abbrev pub is_token_digit : ℕ → Bool
+is_token_digit c = list_any (λ (range : ℕ × ℕ). nat_le range.0 c && nat_le c range.1)
     ((48, 57) ∷ ((97, 102) ∷ []))
 
 abbrev pub is_token : List ℕ → Bool
-is_token text = length text == 32 && list_all is_digit text
+is_token text = length text == 32 && list_all is_token_digit text
 
 -- a node: its id, its group, which the configuration has, and its external id are names
 abbrev pub is_peer : Config → Peer → Bool

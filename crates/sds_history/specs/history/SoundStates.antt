@@ -1,8 +1,7 @@
 -- A sound state: what every state is that a node's acts leave, and what its records are judged by.
-use Rattle.std.specs.Prelude.{ℕ, ◌≡◌, ◌≤◌, ◌<◌, ◌+◌, ◌-◌, Bool, true, false, not, ◌&&◌, ◌||◌, ◌==◌, nat_le, nat_lt, IsTrue, List, [], length, Option, None, Some, is_some}
+use Rattle.std.specs.Prelude.{ℕ, ◌≤◌, ◌+◌, ◌-◌, Bool, true, false, not, ◌&&◌, ◌||◌, ◌==◌, nat_le, nat_lt, IsTrue, List, length, Option, None, Some, is_some}
 use Rattle.std.specs.List.{All, AllPairs, list_all, list_any, range_with_len}
 use Rattle.std.specs.Option.{option_map_or}
-use Rattle.std.specs.Str.{bytes_eq}
 use Rattle.sds_value.specs.Names.{is_name_text}
 use Rattle.sds_types.specs.Limits.{most_peers}
 use Rattle.sds_types.specs.declared.batch.OutBatch.{OutBatch}
@@ -19,7 +18,7 @@ use Rattle.sds_trade.specs.rules.Tables.{AreTables}
 use Rattle.sds_history.specs.history.Acts.{State}
 use Rattle.sds_history.specs.history.Lanes.{lane_key}
 use Rattle.sds_history.specs.history.Openings.{opening_key, went_to}
-use Rattle.sds_history.specs.history.Peers.{peer_key, peer_of}
+use Rattle.sds_history.specs.history.Peers.{peer_key, kept_peer}
 use Rattle.sds_history.specs.history.SoundParts.{AreCounts, AscendBy, AscendByNumber, IsChange, is_batch, is_kept_peer, is_lane_of, is_opening, is_peer}
 use Rattle.sds_history.specs.history.Standings.{is_acked, same_lane}
 use Rattle.sds_history.specs.history.Writers.{writer_key}
@@ -39,7 +38,7 @@ is_counted_change counts change =
 
 -- the node of a batch, a lane or an opening is a peer
 abbrev pub is_peer_of : State → List ℕ → Bool
-is_peer_of state id = is_some (peer_of state.peers id)
+is_peer_of state id = is_some (kept_peer state.peers id)
 
 abbrev pub stage_stands : State → Stage → Bool
 stage_stands state Waiting = true
@@ -47,22 +46,22 @@ stage_stands state (Given node) = is_peer_of state node
 stage_stands state (Closed node) = is_peer_of state node
 
 -- two openings went to two nodes
-abbrev pub node_in : Stage → Option (List ℕ)
-node_in Waiting = None
-node_in (Given node) = Some node
-node_in (Closed node) = Some node
+abbrev pub node_given : Stage → Option (List ℕ)
+node_given Waiting = None
+node_given (Given node) = Some node
+node_given (Closed node) = Some node
 
 abbrev pub are_apart : Opening → Opening → Bool
 are_apart a b =
-    not (option_map_or (λ (node : List ℕ). went_to node b.stage) (node_in a.stage) false)
+    not (option_map_or (λ (node : List ℕ). went_to node b.stage) (node_given a.stage) false)
 
 abbrev pub is_counted_batch : State → OutBatch → Bool
 is_counted_batch state batch = is_counted state.counts.last_batch batch.id
     && (is_peer_of state batch.peer && list_all (is_kept state) batch.changes)
 
 -- no batch of a lane is acknowledged after one that isn't
-abbrev pub acks_in_order : OutBatch → OutBatch → Bool
-acks_in_order a b = not (same_lane a b) || (is_acked a.standing || not (is_acked b.standing))
+abbrev pub acks_ascend : OutBatch → OutBatch → Bool
+acks_ascend a b = not (same_lane a b) || (is_acked a.standing || not (is_acked b.standing))
 
 -- a writer's number and its changes are counted
 abbrev pub is_counted_writer : Counts → WriterLast → Bool
@@ -107,5 +106,5 @@ pub record IsSoundState (config : Config) (state : State) : Type 0 where
   pub unrouted : IsTrue (list_all (is_kept state) (unrouted_numbers state.counts))
   pub batches : IsTrue (list_all (is_batch config) state.batches)
   pub sent : IsTrue (list_all (is_counted_batch state) state.batches)
-  pub acks : AllPairs (λ (a b : OutBatch). IsTrue (acks_in_order a b)) state.batches
+  pub acks : AllPairs (λ (a b : OutBatch). IsTrue (acks_ascend a b)) state.batches
   pub lanes : IsTrue (list_all (is_sound_lane config state) state.lanes)

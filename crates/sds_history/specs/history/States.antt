@@ -4,7 +4,7 @@ use Rattle.sds_value.specs.declared.row.Peer.{Peer}
 use Rattle.sds_types.specs.declared.config.Config.{Config}
 use Rattle.sds_types.specs.declared.counts.Counts.{Counts}
 use Rattle.sds_history.specs.history.Acts.{Act, State, History}
-use Rattle.sds_history.specs.history.Changes.{changes_after, runs_of}
+use Rattle.sds_history.specs.history.Changes.{changes_after, runs_after}
 use Rattle.sds_history.specs.history.Lanes.{lanes_after}
 use Rattle.sds_history.specs.history.Made.{made_after}
 use Rattle.sds_history.specs.history.Openings.{openings_after}
@@ -39,7 +39,7 @@ state_by config opening acts runs = record {
 -- the state that a history leaves
 abbrev pub state_of : Config → History → State
 state_of config history = state_by config history.opening history.acts
-    (runs_of config history.opening history.acts)
+    (runs_after config history.opening history.acts)
 
 -- the state after one more act
 abbrev pub state_after : Config → State → Act → State
@@ -49,8 +49,8 @@ state_after config state act = state_of config (record { opening = state; acts =
 abbrev pub zero_counts : Counts
 zero_counts = record { acts = 0; last_change = 0; last_batch = 0; last_tx = 0; routed = 0 }
 
-abbrev pub fresh : Peer → State
-fresh me = record {
+abbrev pub new_state : Peer → State
+new_state me = record {
   me = me;
   counts = zero_counts;
   peers = [];

@@ -7,7 +7,7 @@ use Rattle.sds_types.specs.declared.counts.WriterLast.{WriterLast}
 use Rattle.sds_history.specs.history.Acts.{Act, State}
 use Rattle.sds_history.specs.history.Acts.Act.{Wrote}
 use Rattle.sds_history.specs.history.Orders.{with_item, item_at}
-use Rattle.sds_history.specs.history.Runs.{Run, changes_in, last_change_after}
+use Rattle.sds_history.specs.history.Runs.{Run, captured_in, last_change_after}
 
 abbrev pub writer_key : WriterLast → List ℕ
 writer_key last = encode_utf8_all last.writer
@@ -22,12 +22,12 @@ abbrev pub writers_after : Config → State → List Run → List WriterLast
 writers_after config opening [] = opening.writers
 writers_after config opening (run ∷ older) =
     writers_by run.act (last_change_after config opening older + 1)
-    (length (changes_in config opening 0 0 run)) (writers_after config opening older)
+    (length (captured_in config opening 0 0 run)) (writers_after config opening older)
 
 -- what is kept of a writer
 abbrev pub writer_of : List WriterLast → List ℕ → Option WriterLast
 writer_of writers name = item_at writer_key (encode_utf8_all name) writers
 
 -- the number of a writer's last write, 0 before the first
-abbrev pub number_of : Option WriterLast → ℕ
-number_of kept = option_map_or (λ (last : WriterLast). last.number) kept 0
+abbrev pub last_number : Option WriterLast → ℕ
+last_number kept = option_map_or (λ (last : WriterLast). last.number) kept 0

@@ -15,7 +15,7 @@ use Rattle.sds_history.specs.history.Acts.{Act, State}
 use Rattle.sds_history.specs.history.Acts.Act.{Wrote}
 use Rattle.sds_history.specs.history.Counters.{answer_within, within}
 use Rattle.sds_history.specs.history.States.{state_after}
-use Rattle.sds_history.specs.history.Writers.{writer_of, number_of}
+use Rattle.sds_history.specs.history.Writers.{writer_of, last_number}
 
 -- how many changes of a state wait to be routed
 abbrev pub waiting_in : State → ℕ
@@ -46,7 +46,7 @@ next_answer config state writer number rows =
 abbrev pub numbered_answer : Config → State → List ℕ → ℕ → List TxRow → Option WriterLast
     → Result Written WriteRefusal
 numbered_answer config state writer number rows kept =
-    let last = number_of kept in
+    let last = last_number kept in
     if number == 0 then Err (OldNumber last)
     else (if nat_lt number last then Err (OldNumber last)
     else (if number == last then Ok (last_answer kept)

@@ -11,7 +11,7 @@ use Rattle.sds_history.specs.world.Delivering.{confirm_at}
 use Rattle.sds_history.specs.world.Happened.{Happened, tells, quiet}
 use Rattle.sds_history.specs.world.Happened.Told.{Answering}
 use Rattle.sds_history.specs.world.Sending.{may_send}
-use Rattle.sds_history.specs.world.Worlds.{Node, World, node_of, state_in, with_node}
+use Rattle.sds_history.specs.world.Worlds.{Node, World, node_at, state_in, with_node}
 
 -- the acks are taken at the sender
 abbrev pub take_at : Config → Node → Reply → Called ℕ AckRefusal
@@ -42,4 +42,4 @@ answered_at config world number reply (Some node) =
 abbrev pub answered_reply : Config → World → ℕ → Option Reply → Happened
 answered_reply config world number None = quiet world
 answered_reply config world number (Some reply) =
-    answered_at config world number reply (node_of world reply.to)
+    answered_at config world number reply (node_at world reply.to)

@@ -9,10 +9,10 @@ use Rattle.sds_types.specs.declared.scenario.ScenarioLine.TheVariants as line
 use Rattle.sds_trade.specs.rules.Outcomes.{channel_place}
 use Rattle.sds_trade.specs.rules.Places.{is_among}
 use Rattle.sds_history.specs.world.Scenes.{Draft, Scene}
-use Rattle.sds_history.specs.world.Worlds.{World, node_of}
+use Rattle.sds_history.specs.world.Worlds.{World, node_at}
 
 abbrev pub is_node : World → List ℕ → Bool
-is_node world id = is_some (node_of world id)
+is_node world id = is_some (node_at world id)
 
 abbrev pub are_nodes : World → List ℕ → List ℕ → Bool
 are_nodes world first second = is_node world first && is_node world second
@@ -58,14 +58,14 @@ is_twice world (line.Node me) = is_node world me.id || nat_le most_nodes (length
 is_twice world other = false
 
 -- rows and the end stand inside a write, all other lines outside
-abbrev pub is_inside : ScenarioLine → Bool
-is_inside (line.Row row) = true
-is_inside line.End = true
-is_inside other = false
+abbrev pub is_of_write : ScenarioLine → Bool
+is_of_write (line.Row row) = true
+is_of_write line.End = true
+is_of_write other = false
 
 abbrev pub is_in_place : Option Draft → ScenarioLine → Bool
-is_in_place None said = not (is_inside said)
-is_in_place (Some draft) said = is_inside said
+is_in_place None said = not (is_of_write said)
+is_in_place (Some draft) said = is_of_write said
 
 -- the cause for which a line may not stand, if there is one; a malformed line says nothing
 abbrev pub cause_of : Config → Scene → Option ScenarioLine → Option ScenarioCause

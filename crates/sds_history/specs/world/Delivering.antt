@@ -23,9 +23,9 @@ use Rattle.sds_history.specs.history.Messages.{batches_in_parts}
 use Rattle.sds_history.specs.world.Calling.{Called, call}
 use Rattle.sds_history.specs.world.Happened.{Happened, tells, quiet}
 use Rattle.sds_history.specs.world.Happened.Told.{Delivering}
-use Rattle.sds_history.specs.world.Orders.{deliver_order}
+use Rattle.sds_history.specs.world.DeliverOrder.{deliver_order}
 use Rattle.sds_history.specs.world.Sending.{may_take}
-use Rattle.sds_history.specs.world.Worlds.{Node, World, node_of, state_in, with_node}
+use Rattle.sds_history.specs.world.Worlds.{Node, World, node_at, state_in, with_node}
 
 -- a delivery on its way: the receiver, the acks of the batches so far, each with the batch's place
 -- in the message, the channels that are held, and why it goes on no more
@@ -115,20 +115,20 @@ abbrev pub confirm_at : Config → Node → List ℕ → Called (Unit {0}) NodeF
 confirm_at config node peer = let state = state_in config node in
     call (λ fault. fault) node (confirm_act config state peer) (confirm_answer config state peer)
 
-abbrev pub refusal_in : Result (Unit {0}) NodeFault → Option SyncRefusal
-refusal_in (Ok done) = None
-refusal_in (Err fault) = Some (Fault fault)
+abbrev pub fault_in : Result (Unit {0}) NodeFault → Option SyncRefusal
+fault_in (Ok done) = None
+fault_in (Err fault) = Some (Fault fault)
 
 abbrev pub delivery_of : Called (Unit {0}) NodeFault → Delivery
 delivery_of called = record {
   node = called.node;
   acks = [];
   held = [];
-  refusal = refusal_in called.answer;
+  refusal = fault_in called.answer;
 }
 
-abbrev pub taken : Config → World → ℕ → Message → List ℕ → State → Node → Happened
-taken config world number message channels sender node =
+abbrev pub delivered_at : Config → World → ℕ → Message → List ℕ → State → Node → Happened
+delivered_at config world number message channels sender node =
     let batches = enumerate_from 0 (batches_in_parts sender message.to message.parts) in
     let delivery = delivered_batches config sender
     (delivery_of (confirm_at config node message.from)) (deliver_order channels batches) in
@@ -139,11 +139,11 @@ abbrev pub delivered_between : Config → World → ℕ → Message → List ℕ
     → Option Node → Happened
 delivered_between config world number message channels (Some sender) (Some node) =
     if may_take config (state_in config node) message.from
-    then taken config world number message channels (state_in config sender) node
+    then delivered_at config world number message channels (state_in config sender) node
     else tells world (Delivering number (Err NoWay))
 delivered_between config world number message channels sender other = quiet world
 
 abbrev pub delivered : Config → World → ℕ → List ℕ → Option Message → Happened
 delivered config world number channels None = quiet world
 delivered config world number channels (Some message) = delivered_between config world number
-    message channels (node_of world message.from) (node_of world message.to)
+    message channels (node_at world message.from) (node_at world message.to)

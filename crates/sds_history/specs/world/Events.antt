@@ -16,9 +16,9 @@ use Rattle.sds_history.specs.world.Delivering.{delivered}
 use Rattle.sds_history.specs.world.Exchanging.{pulled, pushed}
 use Rattle.sds_history.specs.world.Happened.{Happened, tells, quiet}
 use Rattle.sds_history.specs.world.Happened.Told.{Writing, Routing, Bytes, Tables, Batches, Crashed}
-use Rattle.sds_history.specs.world.Registering.{opened, registered}
+use Rattle.sds_history.specs.world.Registering.{opened_at, registered}
 use Rattle.sds_history.specs.world.Sending.{sent}
-use Rattle.sds_history.specs.world.Worlds.{Node, World, message_of, node_of, reply_of, state_in, with_new_node, with_node}
+use Rattle.sds_history.specs.world.Worlds.{Node, World, message_of, node_at, reply_of, state_in, with_new_node, with_node}
 
 -- an own write at a node
 abbrev pub write_at : Config → Node → List ℕ → ℕ → List TxRow → Called Written WriteRefusal
@@ -52,26 +52,26 @@ with_fault world stands (Some node) = quiet (with_node world (armed node stands)
 abbrev pub happened : Config → List ℕ → World → WorldEvent → Happened
 happened config noise world (event.Node me) = quiet (with_new_node world me)
 happened config noise world (event.Open at group external) =
-    opened config noise world at group external (node_of world at)
+    opened_at config noise world at group external (node_at world at)
 happened config noise world (event.Register asks at) =
-    registered config world asks at (node_of world asks) (node_of world at)
+    registered config world asks at (node_at world asks) (node_at world at)
 happened config noise world (event.Write node writer number rows) =
-    written config world node writer number rows (node_of world node)
+    written config world node writer number rows (node_at world node)
 happened config noise world (event.Route node) =
-    routed config world node (node_of world node)
+    routed config world node (node_at world node)
 happened config noise world (event.Send from to channels) =
-    sent config world from to channels (node_of world from)
+    sent config world from to channels (node_at world from)
 happened config noise world (event.Deliver message channels) =
     delivered config world message channels (message_of world message)
 happened config noise world (event.Answer reply) =
     answered_reply config world reply (reply_of world reply)
 happened config noise world (event.Push from to) =
-    pushed config world from to (node_of world from)
+    pushed config world from to (node_at world from)
 happened config noise world (event.Pull to from) =
-    pulled config world to from (node_of world from)
+    pulled config world to from (node_at world from)
 happened config noise world (event.Wire message) = tells world (Bytes message)
 happened config noise world (event.Show node) = tells world (Tables node)
 happened config noise world (event.Batches node) = tells world (Batches node)
 happened config noise world (event.Crash node) = tells world (Crashed node)
 happened config noise world (event.Fault node stands) =
-    with_fault world stands (node_of world node)
+    with_fault world stands (node_at world node)

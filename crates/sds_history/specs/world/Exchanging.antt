@@ -5,7 +5,7 @@ use Rattle.sds_types.specs.declared.config.Config.{Config}
 use Rattle.sds_types.specs.declared.peer.KeptPeer.{KeptPeer}
 use Rattle.sds_history.specs.history.Acts.{State}
 use Rattle.sds_history.specs.history.Links.{has_pull, has_push}
-use Rattle.sds_history.specs.history.Peers.{peer_of}
+use Rattle.sds_history.specs.history.Peers.{kept_peer}
 use Rattle.sds_history.specs.world.Answering.{answered_reply}
 use Rattle.sds_history.specs.world.Delivering.{delivered}
 use Rattle.sds_history.specs.world.Happened.{Happened, Told, tells, quiet}
@@ -16,19 +16,19 @@ use Rattle.sds_history.specs.world.Worlds.{Node, World, message_of, reply_of, st
 -- a link of the kind leads from a node to a peer
 abbrev pub may_exchange : (List ℕ → List ℕ → Bool) → State → List ℕ → Bool
 may_exchange leads state to = option_map_or
-    (λ (kept : KeptPeer). leads state.me.group kept.peer.group) (peer_of state.peers to) false
+    (λ (kept : KeptPeer). leads state.me.group kept.peer.group) (kept_peer state.peers to) false
 
 -- what comes next after what was told: a message with batches is delivered, and a reply is answered
-abbrev pub next_of : Config → World → List Told → Happened
-next_of config world (Sending from to (Ok message) ∷ []) = if message.1 == 0 then quiet world
+abbrev pub next_step : Config → World → List Told → Happened
+next_step config world (Sending from to (Ok message) ∷ []) = if message.1 == 0 then quiet world
     else delivered config world message.0 [] (message_of world message.0)
-next_of config world (Delivering number (Ok reply) ∷ []) =
+next_step config world (Delivering number (Ok reply) ∷ []) =
     answered_reply config world reply.0 (reply_of world reply.0)
-next_of config world told = quiet world
+next_step config world told = quiet world
 
 -- two things that happen one after another
 abbrev pub then_next : Config → Happened → Happened
-then_next config first = let next = next_of config first.world first.told in
+then_next config first = let next = next_step config first.world first.told in
     record { world = next.world; told = first.told ++ next.told }
 
 -- what was told last decides what comes next
@@ -37,7 +37,7 @@ after_told first next = record { world = next.world; told = first.told ++ next.t
 
 abbrev pub exchanged : Config → Happened → Happened
 exchanged config message =
-    after_told message (then_next config (next_of config message.world message.told))
+    after_told message (then_next config (next_step config message.world message.told))
 
 abbrev pub exchanged_if : Bool → Config → World → List ℕ → List ℕ → Node → Told → Happened
 exchanged_if true config world from to node none =

@@ -1,6 +1,6 @@
 -- The nodes of a world are in step: what each wrote counts on, and each lane brings the batches of its
 -- sender to its receiver once each and in order, whatever is lost, repeated or meets a fault.
-use Rattle.std.specs.Prelude.{ℕ, ◌≡◌, ◌≤◌, ◌+◌, Bool, true, false, ◌&&◌, ◌==◌, nat_le, nat_lt, IsTrue, List, length, map, take, Option, None, Some, is_some, option_map, slice_get}
+use Rattle.std.specs.Prelude.{ℕ, ◌≡◌, ◌≤◌, ◌+◌, Bool, true, false, ◌&&◌, ◌==◌, nat_le, nat_lt, IsTrue, List, length, map, take, Option, None, Some, is_some, slice_get}
 use Rattle.std.specs.List.{All, list_any, range_with_len}
 use Rattle.std.specs.Option.{option_map_or}
 use Rattle.std.specs.Str.{bytes_eq}
@@ -12,14 +12,13 @@ use Rattle.sds_types.specs.declared.lane.LaneError.{LaneError}
 use Rattle.sds_types.specs.declared.message.Message.{Message}
 use Rattle.sds_types.specs.declared.message.MessagePart.{MessagePart}
 use Rattle.sds_types.specs.declared.message.Reply.{Reply}
-use Rattle.sds_types.specs.declared.prepared.Prepared.{Prepared}
 use Rattle.sds_history.specs.history.Acts.{Act}
 use Rattle.sds_history.specs.history.Acts.Act.{Loaded}
-use Rattle.sds_history.specs.history.Changes.{runs_of}
+use Rattle.sds_history.specs.history.Changes.{runs_after}
 use Rattle.sds_history.specs.history.Lanes.{lane_of}
-use Rattle.sds_history.specs.world.LaneParts.{Lane, all_lanes, acked_in, as_read, loaded_in, loads_of, made_in, numbers_of}
+use Rattle.sds_history.specs.world.LaneParts.{Lane, all_lanes, acked_in, as_read, loaded_in, made_in, numbers_of}
 use Rattle.sds_history.specs.world.RoutedOnce.{all_routed, holders_of}
-use Rattle.sds_history.specs.world.Worlds.{Node, World, me_of, node_of, state_in}
+use Rattle.sds_history.specs.world.Worlds.{Node, World, me_of, node_at, state_in}
 
 -- WRITES. Each writer's writes at a node have the numbers 1, 2, 3 and so on
 abbrev pub NumbersCount : Node → List ℕ → Type 0
@@ -43,7 +42,7 @@ CountsAgree config lane = (acked_in config lane ≤ length (loaded_in lane))
 -- SENDERS. Whatever is loaded came from a node of the world in a channel of the configuration
 abbrev pub is_from_lane : Config → World → Act → Bool
 is_from_lane config world (Loaded channel batch) =
-    is_some (node_of world batch.from) && nat_lt channel (length config.channels)
+    is_some (node_at world batch.from) && nat_lt channel (length config.channels)
 is_from_lane config world act = true
 
 -- MESSAGES. A part lies in what was made, and begins at most one after what is loaded
@@ -59,7 +58,7 @@ is_part_in config from to part = false
 
 abbrev pub MessageInStep : Config → World → Message → Type 0
 MessageInStep config world message = All (λ (part : MessagePart). IsTrue
-    (is_part_in config (node_of world message.from) (node_of world message.to) part))
+    (is_part_in config (node_at world message.from) (node_at world message.to) part))
     message.parts
 
 -- REPLIES. What is told as loaded is loaded, and what is told as an error was made
@@ -84,7 +83,7 @@ is_ack_between config reply sender other ack = false
 
 abbrev pub ReplyInStep : Config → World → Reply → Type 0
 ReplyInStep config world reply = All (λ (ack : Ack). IsTrue
-    (is_ack_between config reply (node_of world reply.to) (node_of world reply.from) ack))
+    (is_ack_between config reply (node_at world reply.to) (node_at world reply.from) ack))
     reply.acks
 
 -- ERRORS. A lane's error is that of the next batch
@@ -104,7 +103,7 @@ abbrev pub RoutedOnce : Config → Node → Type 0
 RoutedOnce config node = All (λ (at : ℕ × List (List ℕ)).
     holders_of (state_in config node).batches at.0 ≡ at.1)
     (all_routed config node.history.opening
-    (runs_of config node.history.opening node.history.acts))
+    (runs_after config node.history.opening node.history.acts))
 
 pub record NodeInStep (config : Config) (world : World) (node : Node) : Type 0 where
   pub writes : WritesCount config node

@@ -1,5 +1,5 @@
 -- The batches of a lane at its sender and at its receiver, one beside the other.
-use Rattle.std.specs.Prelude.{ℕ, Bool, ◌&&◌, ◌==◌, if◌then◌else◌, List, [], ◌∷◌, ◌++◌, length, map, Option}
+use Rattle.std.specs.Prelude.{ℕ, ◌&&◌, ◌==◌, if◌then◌else◌, List, [], ◌∷◌, ◌++◌, map}
 use Rattle.std.specs.List.{enumerate_from, flat_map}
 use Rattle.std.specs.Str.{bytes_eq}
 use Rattle.sds_types.specs.declared.batch.OutBatch.{OutBatch}
@@ -56,10 +56,10 @@ as_read config lane batch =
     (doc_of_batch config (state_in config lane.from) batch)
 
 -- the numbers of a writer's writes, the oldest first
-abbrev pub number_in : List ℕ → Act → List ℕ
-number_in writer (Wrote name number rows) = if bytes_eq name writer then number ∷ [] else []
-number_in writer act = []
+abbrev pub write_number : List ℕ → Act → List ℕ
+write_number writer (Wrote name number rows) = if bytes_eq name writer then number ∷ [] else []
+write_number writer act = []
 
 abbrev pub numbers_of : List ℕ → List Act → List ℕ
 numbers_of writer [] = []
-numbers_of writer (act ∷ older) = numbers_of writer older ++ number_in writer act
+numbers_of writer (act ∷ older) = numbers_of writer older ++ write_number writer act

@@ -12,7 +12,7 @@ use Rattle.sds_history.specs.world.Happened.Told.{Opening, Registering, Writing,
 use Rattle.sds_history.specs.world.Listed.{batches_text}
 use Rattle.sds_history.specs.world.Shown.{message_text, tables_text}
 use Rattle.sds_history.specs.world.Words.{answer_words, batches_words, delivery_words, registration_words, route_words, spaced, sync_words, write_words}
-use Rattle.sds_history.specs.world.Worlds.{Node, World, message_of, node_of, state_in}
+use Rattle.sds_history.specs.world.Worlds.{Node, World, message_of, node_at, state_in}
 
 -- a line: what was asked, a colon, and the answer
 abbrev pub answered_line : List (List ℕ) → List ℕ → List ℕ
@@ -37,7 +37,7 @@ send_line from to (Err refusal) =
 -- what a node shows
 abbrev pub shown_of : Config → World → (State → List ℕ) → List ℕ → List ℕ
 shown_of config world show id =
-    option_map_or (λ (node : Node). show (state_in config node)) (node_of world id) []
+    option_map_or (λ (node : Node). show (state_in config node)) (node_at world id) []
 
 abbrev pub wire_of : Config → World → Option Message → List ℕ
 wire_of config world message = option_map_or

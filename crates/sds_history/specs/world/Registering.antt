@@ -8,7 +8,7 @@ use Rattle.sds_history.specs.history.Registrations.{open_act, open_answer, regis
 use Rattle.sds_history.specs.world.Calling.{Called, call}
 use Rattle.sds_history.specs.world.Happened.{Happened, tells, quiet}
 use Rattle.sds_history.specs.world.Happened.Told.{Opening, Registering}
-use Rattle.sds_history.specs.world.Worlds.{Node, World, me_of, node_of, state_in, with_node}
+use Rattle.sds_history.specs.world.Worlds.{Node, World, me_of, node_at, state_in, with_node}
 
 -- a node opens registration
 abbrev pub open_at : Config → List ℕ → Node → List ℕ → List ℕ → Called (Unit {0}) RegRefusal
@@ -16,9 +16,9 @@ open_at config noise node group external = let state = state_in config node in
     call Fault node (open_act config state group external noise)
     (open_answer config state group external noise)
 
-abbrev pub opened : Config → List ℕ → World → List ℕ → List ℕ → List ℕ → Option Node → Happened
-opened config noise world at group external None = quiet world
-opened config noise world at group external (Some node) =
+abbrev pub opened_at : Config → List ℕ → World → List ℕ → List ℕ → List ℕ → Option Node → Happened
+opened_at config noise world at group external None = quiet world
+opened_at config noise world at group external (Some node) =
     let called = open_at config noise node group external in
     tells (with_node world called.node) (Opening at group external called.answer)
 
@@ -49,7 +49,7 @@ abbrev pub after_register : Config → World → List ℕ → List ℕ → Node 
 after_register config world asks at node (Err refusal) =
     tells world (Registering asks at (Err refusal))
 after_register config world asks at node (Ok token) =
-    join_in config world asks node token (node_of world asks)
+    join_in config world asks node token (node_at world asks)
 
 abbrev pub registered : Config → World → List ℕ → List ℕ → Option Node → Option Node → Happened
 registered config world asks at (Some child) (Some node) =

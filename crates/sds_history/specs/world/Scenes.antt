@@ -32,33 +32,33 @@ abbrev pub write_event : Draft → WorldEvent
 write_event draft = event.Write draft.node draft.writer draft.number draft.rows
 
 -- the event that a line makes happen: a write happens at its end
-abbrev pub event_of : Config → Option Draft → ScenarioLine → Option WorldEvent
-event_of config draft (line.Node me) = Some (event.Node me)
-event_of config draft (line.Open at group external) = Some (event.Open at group external)
-event_of config draft (line.Register asks at) = Some (event.Register asks at)
-event_of config draft (line.Write node writer number) = None
-event_of config draft (line.Row row) = None
-event_of config draft line.End = option_map write_event draft
-event_of config draft (line.Route node) = Some (event.Route node)
-event_of config draft (line.Send from to channels) =
+abbrev pub event_at : Config → Option Draft → ScenarioLine → Option WorldEvent
+event_at config draft (line.Node me) = Some (event.Node me)
+event_at config draft (line.Open at group external) = Some (event.Open at group external)
+event_at config draft (line.Register asks at) = Some (event.Register asks at)
+event_at config draft (line.Write node writer number) = None
+event_at config draft (line.Row row) = None
+event_at config draft line.End = option_map write_event draft
+event_at config draft (line.Route node) = Some (event.Route node)
+event_at config draft (line.Send from to channels) =
     Some (event.Send from to (channel_places config channels))
-event_of config draft (line.Deliver message channels) =
+event_at config draft (line.Deliver message channels) =
     Some (event.Deliver message (channel_places config channels))
-event_of config draft (line.Answer reply) = Some (event.Answer reply)
-event_of config draft (line.Push from to) = Some (event.Push from to)
-event_of config draft (line.Pull to from) = Some (event.Pull to from)
-event_of config draft (line.Wire message) = Some (event.Wire message)
-event_of config draft (line.Show node) = Some (event.Show node)
-event_of config draft (line.Batches node) = Some (event.Batches node)
-event_of config draft (line.Crash node) = Some (event.Crash node)
-event_of config draft (line.Fault node stands) = Some (event.Fault node stands)
+event_at config draft (line.Answer reply) = Some (event.Answer reply)
+event_at config draft (line.Push from to) = Some (event.Push from to)
+event_at config draft (line.Pull to from) = Some (event.Pull to from)
+event_at config draft (line.Wire message) = Some (event.Wire message)
+event_at config draft (line.Show node) = Some (event.Show node)
+event_at config draft (line.Batches node) = Some (event.Batches node)
+event_at config draft (line.Crash node) = Some (event.Crash node)
+event_at config draft (line.Fault node stands) = Some (event.Fault node stands)
 
-abbrev pub with_row : TxRow → Draft → Draft
-with_row row draft = record draft { rows = draft.rows ++ row ∷ [] }
+abbrev pub with_draft_row : TxRow → Draft → Draft
+with_draft_row row draft = record draft { rows = draft.rows ++ row ∷ [] }
 
 -- the write that is being read after a line
 abbrev pub draft_after : Option Draft → ScenarioLine → Option Draft
 draft_after draft (line.Write node writer number) =
     Some (record { node = node; writer = writer; number = number; rows = [] })
-draft_after draft (line.Row row) = option_map (with_row row) draft
+draft_after draft (line.Row row) = option_map (with_draft_row row) draft
 draft_after draft other = None

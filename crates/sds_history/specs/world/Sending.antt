@@ -9,7 +9,7 @@ use Rattle.sds_types.specs.declared.sync.SyncRefusal.TheVariants.{NoWay}
 use Rattle.sds_history.specs.history.Acts.{State}
 use Rattle.sds_history.specs.history.Links.{has_way}
 use Rattle.sds_history.specs.history.Messages.{parts_of}
-use Rattle.sds_history.specs.history.Peers.{peer_of}
+use Rattle.sds_history.specs.history.Peers.{kept_peer}
 use Rattle.sds_history.specs.world.Happened.{Happened, tells, quiet}
 use Rattle.sds_history.specs.world.Happened.Told.{Sending}
 use Rattle.sds_history.specs.world.Worlds.{Node, World, state_in}
@@ -17,13 +17,13 @@ use Rattle.sds_history.specs.world.Worlds.{Node, World, state_in}
 -- a node has a peer, and a link leads to it, or from it
 abbrev pub may_send : Config → State → List ℕ → Bool
 may_send config state to = option_map_or
-    (λ (kept : KeptPeer). has_way config state.me.group kept.peer.group) (peer_of state.peers to)
+    (λ (kept : KeptPeer). has_way config state.me.group kept.peer.group) (kept_peer state.peers to)
     false
 
 abbrev pub may_take : Config → State → List ℕ → Bool
 may_take config state from = option_map_or
     (λ (kept : KeptPeer). has_way config kept.peer.group state.me.group)
-    (peer_of state.peers from) false
+    (kept_peer state.peers from) false
 
 -- how many batches parts have
 abbrev pub batch_count : List MessagePart → ℕ

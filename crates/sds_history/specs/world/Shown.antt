@@ -1,18 +1,15 @@
 -- The tables of a node as a person sees them, and the bytes of a message.
 use Rattle.std.specs.Prelude.{ℕ, ◌==◌, List, ◌++◌, map, codes}
-use Rattle.std.specs.List.{enumerate_from, filter, flat_map, zip}
+use Rattle.std.specs.List.{enumerate_from, filter, flat_map}
 use Rattle.std.specs.Str.{encode_utf8_all}
 use Rattle.sds_batchtext.specs.Writing.{text_of}
 use Rattle.sds_line.specs.Written.{written_line}
-use Rattle.sds_value.specs.declared.kind.Value.{Value}
-use Rattle.sds_value.specs.declared.row.Field.{Field}
 use Rattle.sds_value.specs.declared.table.ColumnDef.{ColumnDef}
 use Rattle.sds_value.specs.declared.table.TableDef.{TableDef}
 use Rattle.sds_types.specs.declared.config.Config.{Config}
 use Rattle.sds_types.specs.declared.document.BatchDoc.{BatchDoc}
 use Rattle.sds_types.specs.declared.message.Message.{Message}
 use Rattle.sds_types.specs.declared.row.TableRow.{TableRow}
-use Rattle.sds_trade.specs.rules.RoutedValues.{field_of}
 use Rattle.sds_history.specs.history.Acts.{State}
 use Rattle.sds_history.specs.history.Documents.{doc_of_batch}
 use Rattle.sds_history.specs.history.Messages.{batches_in_parts}

@@ -26,8 +26,8 @@ spaced words = join_with_byte 32 words
 abbrev pub line_of_words : List (List ℕ) → List ℕ
 line_of_words words = spaced words ++ codes "\n"
 
-abbrev pub two_numbers : List ℕ → ℕ → ℕ → List ℕ
-two_numbers word first second = spaced (word ∷ (decimal first ∷ (decimal second ∷ [])))
+abbrev pub numbers_after : List ℕ → ℕ → ℕ → List ℕ
+numbers_after word first second = spaced (word ∷ (decimal first ∷ (decimal second ∷ [])))
 
 -- a registration
 abbrev pub refusal_words : RegRefusal → List ℕ
@@ -40,9 +40,9 @@ registration_words (Err refusal) = refusal_words refusal
 
 -- a write
 abbrev pub write_words : Result Written WriteRefusal → List ℕ
-write_words (Ok (Done first count)) = two_numbers (codes "done") first count
-write_words (Ok (Again first count)) = two_numbers (codes "again") first count
-write_words (Err (Broken row rule)) = two_numbers (codes "refused") row (number_of rule)
+write_words (Ok (Done first count)) = numbers_after (codes "done") first count
+write_words (Ok (Again first count)) = numbers_after (codes "again") first count
+write_words (Err (Broken row rule)) = numbers_after (codes "refused") row (number_of rule)
 write_words (Err (OldNumber last)) = codes "old " ++ decimal last
 write_words (Err (GapNumber last)) = codes "gap " ++ decimal last
 write_words (Err TooManyRows) = codes "rows"

@@ -7,7 +7,7 @@ use Rattle.sds_types.specs.declared.config.Config.{Config}
 use Rattle.sds_types.specs.declared.message.Message.{Message}
 use Rattle.sds_types.specs.declared.message.Reply.{Reply}
 use Rattle.sds_history.specs.history.Acts.{History, State}
-use Rattle.sds_history.specs.history.States.{fresh, state_of}
+use Rattle.sds_history.specs.history.States.{new_state, state_of}
 
 -- a node: its history, and the faults that its next commits meet, each with whether the commit
 -- stands nevertheless
@@ -33,12 +33,12 @@ abbrev pub has_id : List ℕ → Node → Bool
 has_id id node = bytes_eq (me_of node).id id
 
 -- the node of an id
-abbrev pub node_of : World → List ℕ → Option Node
-node_of world id = find (has_id id) world.nodes
+abbrev pub node_at : World → List ℕ → Option Node
+node_at world id = find (has_id id) world.nodes
 
 -- a new node
 abbrev pub new_node : Peer → Node
-new_node me = record { history = record { opening = fresh me; acts = [] }; faults = [] }
+new_node me = record { history = record { opening = new_state me; acts = [] }; faults = [] }
 
 abbrev pub with_new_node : World → Peer → World
 with_new_node world me = record world { nodes = world.nodes ++ new_node me ∷ [] }

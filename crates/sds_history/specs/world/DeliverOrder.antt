@@ -4,11 +4,11 @@ use Rattle.std.specs.List.{enumerate_from, filter, filter_map}
 use Rattle.sds_types.specs.declared.batch.OutBatch.{OutBatch}
 
 -- the batches of a message, each with its place, that are of a channel
-abbrev pub is_of : ℕ → ℕ × OutBatch → Bool
-is_of channel at = at.1.channel == channel
+abbrev pub is_in_part : ℕ → ℕ × OutBatch → Bool
+is_in_part channel at = at.1.channel == channel
 
 abbrev pub in_channel : List (ℕ × OutBatch) → ℕ → List (ℕ × OutBatch)
-in_channel batches channel = filter (is_of channel) batches
+in_channel batches channel = filter (is_in_part channel) batches
 
 -- how often a channel is mentioned
 abbrev pub mentions : List ℕ → ℕ → ℕ
