@@ -11,6 +11,7 @@ pub mod Standings
 pub mod Lanes
 pub mod States
 pub mod Records
+pub mod RowRecords
 pub mod Image
 pub mod SoundParts
 pub mod SoundStates

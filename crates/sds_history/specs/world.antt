@@ -5,6 +5,7 @@ pub mod Happened
 pub mod Registering
 pub mod Sending
 pub mod DeliverOrder
+pub mod Delivery
 pub mod Delivering
 pub mod Answering
 pub mod Exchanging

@@ -4,7 +4,8 @@ use Rattle.sds_types.specs.declared.config.Config.{Config}
 use Rattle.sds_types.specs.declared.counts.Counts.{Counts}
 use Rattle.sds_history.specs.history.Acts.{State}
 use Rattle.sds_history.specs.history.Orders.{with_item}
-use Rattle.sds_history.specs.history.Records.{Record, batch_record, change_record, count_record, lane_record, me_record, opening_record, peer_record, row_record, writer_record}
+use Rattle.sds_history.specs.history.Records.{Record, batch_record, count_record, lane_record, me_record, opening_record, peer_record, writer_record}
+use Rattle.sds_history.specs.history.RowRecords.{change_record, row_record}
 
 -- the counters are kept once an act was made
 abbrev pub count_records : Counts → List Record

@@ -13,7 +13,7 @@ use Rattle.sds_types.specs.declared.row.TableRow.{TableRow}
 use Rattle.sds_history.specs.history.Acts.{State}
 use Rattle.sds_history.specs.history.Documents.{doc_of_batch}
 use Rattle.sds_history.specs.history.Messages.{batches_in_parts}
-use Rattle.sds_history.specs.history.Records.{row_fields}
+use Rattle.sds_history.specs.history.RowRecords.{row_fields}
 
 -- a row: its values as they are printed
 abbrev pub row_text : List ColumnDef → TableRow → List ℕ
