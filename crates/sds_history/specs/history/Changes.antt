@@ -27,7 +27,8 @@ run_end_of config opening waiting rows act = None
 abbrev pub run_after : Config → State → List Run → Act → Run
 run_after config opening runs act = record {
   act = act;
-  end = run_end_of config opening (waiting_after config opening runs) (tables_after opening runs) act;
+  end = run_end_of config opening (waiting_after config opening runs)
+      (tables_after opening runs) act;
 }
 
 -- the acts with how each ended: each over the tables, and with the changes that wait, that those

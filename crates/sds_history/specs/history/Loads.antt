@@ -93,8 +93,8 @@ abbrev pub next_load : Config → State → List ℕ → Prepared → Option Act
 next_load config state from batch =
     load_of state from batch batch.channel (own_load_answer config state from batch)
 
--- LOAD: no peer of the sender's group; an unknown channel, which is not kept; loaded already; held by
--- an earlier batch; a broken rule, which is kept; a counter; and else it is loaded or ignored
+-- LOAD: no peer of the sender's group; an unknown channel, which is not kept; loaded already; held
+-- by an earlier batch; a broken rule, which is kept; a counter; and else it is loaded or ignored
 abbrev pub load_answer : Config → State → List ℕ → Prepared → Result LoadAnswer PeerRefusal
 load_answer config state from batch = answer_within Fault config state
     (next_load config state from batch) (own_load_answer config state from batch)

@@ -59,7 +59,7 @@ abbrev pub is_closed : Stage → Bool
 is_closed (Closed node) = true
 is_closed stage = false
 
--- an id is the node's, or a peer's to which the opening wasn't given, or the opening went to another
+-- an id is the node's, or a peer's to which the opening wasn't given, or the opening is another's
 abbrev pub is_taken : State → Opening → List ℕ → Bool
 is_taken state opening id = bytes_eq id state.me.id
     || ((is_some (kept_peer state.peers id) && not (went_to id opening.stage))

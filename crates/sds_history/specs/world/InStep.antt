@@ -1,5 +1,4 @@
--- The nodes of a world are in step: what each wrote counts on, and each lane brings the batches of its
--- sender to its receiver once each and in order, whatever is lost, repeated or meets a fault.
+-- The nodes of a world are in step, whatever is lost, repeated or meets a fault.
 use Rattle.std.specs.Prelude.{ℕ, ◌≡◌, ◌≤◌, ◌+◌, Bool, true, false, ◌&&◌, ◌==◌, nat_le, nat_lt, IsTrue, List, length, map, take, Option, None, Some, is_some, slice_get}
 use Rattle.std.specs.List.{All, list_any, range_with_len}
 use Rattle.std.specs.Option.{option_map_or}

@@ -1,4 +1,4 @@
--- From a configuration, the noise and a scenario to its screen, and the first line that may not stand.
+-- From a configuration, the noise and a scenario to its screen and its first bad line.
 use Rattle.std.specs.Prelude.{ℕ, ◌-◌, Bool, not, ◌==◌, nat_lt, is_some, if◌then◌else◌, List, [], ◌∷◌, ◌++◌, length, take, Option, None, Some}
 use Rattle.std.specs.List.{flat_map, suffix_len}
 use Rattle.sds_line.specs.declared.line.Line.{Line}
