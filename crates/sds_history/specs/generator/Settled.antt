@@ -1,5 +1,5 @@
 -- The end of the generator, when all nodes exchange until nothing waits, and its whole run.
-use Rattle.std.specs.Prelude.{ℕ, suc, zero, ◌+◌, nat_lt, not, if◌then◌else◌, List, [], ◌∷◌, ◌++◌, length, map}
+use Rattle.std.specs.Prelude.{ℕ, suc, zero, ◌+◌, nat_lt, not, if◌then◌else◌, List, [], ◌∷◌, ◌++◌, length, map, Bool, true, false}
 use Rattle.std.specs.List.{enumerate_from, filter}
 use Rattle.std.specs.Option.{option_map_or}
 use Rattle.sds_types.specs.declared.batch.OutBatch.{OutBatch}
@@ -18,12 +18,17 @@ waiting_at world id = option_map_or (λ (node : Node). length
     (filter (λ (batch : OutBatch). not (is_acked batch.standing)) (state_in shop node).batches))
     (node_at world id) 0
 
+-- what comes later counts where something moved, and else the world as it is
+abbrev pub later_if : Bool → World → World → World
+later_if true world later = later
+later_if false world later = world
+
 -- an exchange again and again, until one makes no batch of the sender OK
 abbrev pub until_still : List ℕ → List ℕ → WorldEvent → World → ℕ → World
 until_still noise from what world zero = world
 until_still noise from what world (suc count) = let moved = after_event noise world what in
-    if nat_lt (waiting_at moved from) (waiting_at world from)
-    then until_still noise from what moved count else moved
+    later_if (nat_lt (waiting_at moved from) (waiting_at world from)) moved
+    (until_still noise from what moved count)
 
 abbrev pub settled_store : List ℕ → World → ℕ → World
 settled_store noise world number =
