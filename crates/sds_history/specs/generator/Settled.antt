@@ -1,5 +1,5 @@
 -- The end of the generator, when all nodes exchange until nothing waits, and its whole run.
-use Rattle.std.specs.Prelude.{ℕ, suc, zero, ◌+◌, nat_lt, not, if◌then◌else◌, List, [], ◌∷◌, ◌++◌, length, map, Bool, true, false}
+use Rattle.std.specs.Prelude.{ℕ, suc, zero, ◌+◌, nat_lt, not, List, [], ◌∷◌, ◌++◌, length, map, Bool, true, false}
 use Rattle.std.specs.List.{enumerate_from, filter}
 use Rattle.std.specs.Option.{option_map_or}
 use Rattle.sds_types.specs.declared.batch.OutBatch.{OutBatch}
