@@ -67,8 +67,8 @@ screen_from config noise scene (line ∷ lines) = let said = line_of line.fields
     else text_by config noise scene said
     ++ screen_from config noise (scene_by config noise scene said) lines
 
-abbrev pub screen : Config → List ℕ → List ℕ → List ℕ
-screen config noise text = screen_from config noise first_scene (split_of text).lines
+abbrev pub scenario_screen : Config → List ℕ → List ℕ → List ℕ
+scenario_screen config noise text = screen_from config noise first_scene (split_of text).lines
 
 -- REFUSAL. The first line that may not stand, with the number of its cause
 pub record BadLine : Type 0 where
@@ -93,6 +93,6 @@ refusal_from config noise is_over split scene (line ∷ lines) = let said = line
       | None ↦ refusal_from config noise is_over split (scene_by config noise scene said) lines
     ]
 
-abbrev pub refusal_of : Config → List ℕ → List ℕ → Option BadLine
-refusal_of config noise text = refusal_from config noise (is_past_most text) (split_of text)
+abbrev pub scenario_refusal : Config → List ℕ → List ℕ → Option BadLine
+scenario_refusal config noise text = refusal_from config noise (is_past_most text) (split_of text)
     first_scene (split_of text).lines
