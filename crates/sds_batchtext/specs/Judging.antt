@@ -72,8 +72,7 @@ has_its_id older (Commit id) = is_id (last_batch older) id
 has_its_id older line = true
 
 -- What a line says where it may stand, or the first of the causes for which it may not: no
--- directive that is obeyed, a directive out of
--- place, bad fields, another batch's id.
+-- directive that is obeyed, a directive out of place, bad fields, another batch's id.
 abbrev pub judged_said : List DocLine → Option DocLine → Result DocLine DocumentCause
 judged_said older None = Err BadFields
 judged_said older (Some line) =

@@ -12,8 +12,7 @@ use Rattle.sds_batchtext.specs.Judging.{lines_said, broken_line}
 use Rattle.sds_batchtext.specs.Positions.{IsPositionAfter}
 
 -- a reader: the lines that come, what is kept of those that were read, the batches that weren't
--- taken, the end where it is known, and
--- whether out of memory has lost a part of the document
+-- taken, the end where it is known, and whether out of memory has lost a part of the document
 pub record ReaderState : Type 0 where
   pub lines : Fed
   pub position : Position

@@ -41,8 +41,8 @@ is_base64 Hex = false
 is_base64 Plain = false
 
 -- A batch has a written form: its bytes are in base64, its id is 1 to 2^62, its channel, tables,
--- keys and columns are names, each row has
--- the values that its event asks for, and no line is too long.
+-- keys and columns are names, each row has the values that its event asks for, and no line is too
+-- long.
 abbrev pub is_writable : BatchDoc → Bool
 is_writable batch = is_base64 batch.binary && ((nat_le 1 batch.batch
     && nat_le batch.batch most_count) && (is_name_text batch.channel

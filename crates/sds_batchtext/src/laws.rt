@@ -9,8 +9,7 @@ ghost use Rattle.sds_batchtext.specs.Writable.{is_writable, is_batch_text};
 ghost use Rattle.sds_batchtext.specs.Writing.{head_text, batch_text, text_of};
 
 /// The law that a written document reads back: it gives its batches and is clean, whatever batches
-/// it has that have a
-/// written form and whose texts are made of characters.
+/// it has that have a written form and whose texts are made of characters.
 pub fn written_documents_read_back()
     ensures { (node : List ℕ) (batches : List BatchDoc) → IsTrue (is_name_text node)
         → IsTrue (list_all is_writable batches) → IsTrue (list_all is_batch_text batches)
@@ -26,8 +25,7 @@ pub fn documents_are_written_in_order()
 {}
 
 /// The law that a prefix of a document gives a prefix of its batches: what follows a text, and its
-/// end, add batches after
-/// those that it has.
+/// end, add batches after those that it has.
 pub fn batches_go_on()
     ensures on { (finished : Bool) (front more : List ℕ)
         → (rest : List BatchDoc) × (batches_in finished (front ++ more) ≡ batches_in false front

@@ -1,6 +1,5 @@
 //! Batch documents: what a document in the CSV data format gives, read from pieces of any size, and
-//! how batches are
-//! written.
+//! how batches are written.
 #![tactic(auto)]
 
 mod directive;

@@ -17,9 +17,8 @@ use std::marker::Model;
 /// A document that comes in pieces of any size.
 ///
 /// It keeps the batch that is open and the batches that weren't taken, the line that has not ended,
-/// and what holds of
-/// the lines before: the node, the channel, the keys and columns of each table. It keeps no line
-/// that was read.
+/// and what holds of the lines before: the node, the channel, the keys and columns of each table.
+/// It keeps no line that was read.
 #[derive(Debug, Drop)]
 pub struct Reader {
     lines: Lines,
@@ -68,8 +67,7 @@ impl Reader {
     /// stand is ignored.
     ///
     /// It may not be called after `finish`, and at most 2^62 bytes may be fed in all. Out of memory
-    /// loses a part of the
-    /// document, and every later call that may be out of memory is.
+    /// loses a part of the document, and every later call that may be out of memory is.
     pub fn feed(&mut self, piece: &[u8]) -> Result<(), NoMemory>
         requires open { is_finished self.old.lines.phase ≡ false }
         requires few { reach self.old.lines.split + length piece.now < 2 ^ 63 }
@@ -124,8 +122,7 @@ impl Reader {
     }
 
     /// The next whole batch of the document so far, which is the caller's from then on. None comes
-    /// exactly where every
-    /// whole batch was taken.
+    /// exactly where every whole batch was taken.
     pub fn take(&mut self) -> Result<Option<BatchDoc>, NoMemory>
         ensures takes { (text : List ℕ) (taken : List BatchDoc) (finished : Bool)
             → HasRead text taken finished self.old → Takes text taken finished result self.new }
@@ -139,16 +136,13 @@ impl Reader {
     }
 
     /// Says that the document ends here, and tells how: clean, or with the line that may not stand,
-    /// and why. The causes,
-    /// the first that holds of a line: it is no line of fields; no directive has its name; the
-    /// directive is refused by
-    /// name; it may not stand there; it has too few or too many fields, or one that isn't what it
-    /// asks for; a `commit`
-    /// has another id than its batch. An end inside a batch, or between `old` and its row, is at
-    /// the line that would
-    /// begin after the last. The directives are those of the SymmetricDS guide's appendix on the
-    /// CSV data format; where
-    /// they may stand, and the causes, are symds' own. Called again it tells the same.
+    /// and why. The causes, the first that holds of a line: it is no line of fields; no directive
+    /// has its name; the directive is refused by name; it may not stand there; it has too few or
+    /// too many fields, or one that isn't what it asks for; a `commit` has another id than its
+    /// batch. An end inside a batch, or between `old` and its row, is at the line that would begin
+    /// after the last. The directives are those of the SymmetricDS guide's appendix on the CSV data
+    /// format; where they may stand, and the causes, are symds' own. Called again it tells the
+    /// same.
     pub fn finish(&mut self) -> Result<End, NoMemory>
         ensures read { IfOk result (λ ending.
             (text : List ℕ) (taken : List BatchDoc) (finished : Bool) → HasRead text taken finished self.old
@@ -199,8 +193,8 @@ impl Reader {
     }
 
     /// The node of the document, and the number of the line that names it. None comes exactly where
-    /// no whole `nodeid`
-    /// line stands in the document so far, before the first line that may not stand.
+    /// no whole `nodeid` line stands in the document so far, before the first line that may not
+    /// stand.
     pub fn node(&self) -> Option<(&Txt, u64)>
         ensures { (text : List ℕ) (taken : List BatchDoc) (finished : Bool)
             → HasRead text taken finished self.now

@@ -15,9 +15,8 @@ use sds_types::BatchDoc;
 use sds_value::{DocRow, Event, Field};
 
 /// Puts the lines with which the document of a node begins: its node, and that bytes are written in
-/// base64. Out of
-/// memory leaves `out` as it was. The form is that of the SymmetricDS guide's appendix on the CSV
-/// data format.
+/// base64. Out of memory leaves `out` as it was. The form is that of the SymmetricDS guide's
+/// appendix on the CSV data format.
 pub fn put_head(node: &str, out: &mut Vec<u8>) -> Result<(), NoMemory>
     requires { IsTrue (is_name_text (chars node.now)) }
     ensures ok { OnOk result (out.new.items ≡ out.old.items ++ stated.head_text (chars node.now)) }
@@ -42,12 +41,10 @@ fn put_head_lines(node: &[u8], out: &mut Vec<u8>) -> Result<(), NoMemory>
 }
 
 /// Puts a batch: its channel and its id, its rows, and its end. A row's table, keys and columns
-/// stand before it where they
-/// aren't those of the row before. Out of memory leaves `out` as it was. The batch's bytes are in
-/// base64, its id is 1 to
-/// 2^62, its channel, tables, keys and columns are names, each row has the values that its event
-/// asks for, and no written
-/// line has more than 1,048,576 bytes.
+/// stand before it where they aren't those of the row before. Out of memory leaves `out` as it was.
+/// The batch's bytes are in base64, its id is 1 to 2^62, its channel, tables, keys and columns are
+/// names, each row has the values that its event asks for, and no written line has more than
+/// 1,048,576 bytes.
 pub fn put_batch(batch: &BatchDoc, out: &mut Vec<u8>) -> Result<(), NoMemory>
     requires { IsTrue (is_writable batch.now) }
     ensures ok { OnOk result (out.new.items ≡ out.old.items ++ stated.batch_text batch.now) }

@@ -1,5 +1,6 @@
 //! What the program does: the call that carries its promises.
-ghost use Rattle.std.specs.Prelude.{◌≡◌, ◌≢◌, ◌⊎◌, ℕ, Bool, List, true, false, IfOk, IfErr, IfSome, take};
+ghost use Rattle.std.specs.Prelude.{◌≡◌, ◌≢◌, ◌⊎◌, ℕ, Bool, List, true, false, IfOk, IfErr, IfSome};
+ghost use Rattle.std.specs.Prelude.{take};
 ghost use Rattle.sds_config.specs.Configuration.{IsConfiguration, IsFirstRefusal};
 ghost use Rattle.sds_outside.specs.Causes.{Rose};
 ghost use Rattle.sds_outside.specs.Told.{IsAtEnd};
@@ -10,7 +11,8 @@ ghost use Rattle.sds_first_spec.specs.World.{empty_world};
 ghost use Rattle.sds_first_world.specs.Played.{events_of};
 ghost use Rattle.symds.specs.Configured.{IsRefusedBy, IsUnread, SaysRefusal, TellsOf};
 ghost use Rattle.symds.specs.Help.{IsPrinted, help_text, version_text};
-ghost use Rattle.symds.specs.Rehearsed.{IsCausedBy, IsFirstCause, IsNoFault, cause_of, status_by, Tells};
+ghost use Rattle.symds.specs.Rehearsed.{IsCausedBy, IsFirstCause, IsNoFault, cause_of, status_by};
+ghost use Rattle.symds.specs.Rehearsed.{Tells};
 ghost use Rattle.symds.specs.Words.{IsHelp, IsMisfit, IsOrder, IsRefused, IsVersion};
 
 use crate::help::{help_text, version_text};
@@ -23,9 +25,10 @@ use sds_types::limits::MOST_CONFIG_BYTES;
 use sds_types::{Config, ConfigRefusal, InputCause, ScenarioCause, Status, Unreadable};
 use std::alloc::Global;
 
-/// Does what the words ask for: `rehearse` reads the configuration file, plays the scenario of `input` under it and writes
-/// its screen to `out`; help and the version are written to `out`. Other words are refused before anything is read, and a
-/// configuration that is refused before the input is read. The keeper is handed back as it was; the link isn't touched.
+/// Does what the words ask for: `rehearse` reads the configuration file, plays the scenario of
+/// `input` under it and writes its screen to `out`; help and the version are written to `out`.
+/// Other words are refused before anything is read, and a configuration that is refused before the
+/// input is read. The keeper is handed back as it was; the link isn't touched.
 pub fn run<K: Keeper, S: Source, I: Source, W: Sink, L: Link>(
     alloc: Global,
     words: &[Txt],
@@ -36,37 +39,48 @@ pub fn run<K: Keeper, S: Source, I: Source, W: Sink, L: Link>(
     noise: [u8; 16],
     out: &mut W,
 ) -> (Status, K)
-    // WORDS. They are refused at the first word that doesn't fit, with nothing written; help and the version are printed.
-    // Where they are no order, neither the configuration nor the input is read.
+    // WORDS. They are refused at the first word that doesn't fit, with nothing written; help and
+    // the version are printed. Where they are no order, neither the configuration nor the input is
+    // read.
     ensures words { (place : ℕ) → result.0 ≡ Status.Words place
         → IsRefused words.now (WordsRefusal.Bad place) × (out.new ≡ out.old) }
     ensures misfit { (place : ℕ) → IsMisfit words.now place
         → (result.0 ≡ Status.NoMemory) ⊎ (result.0 ≡ Status.Words place) }
-    ensures help { IsHelp words.now → IsPrinted help_text result.0 (W.taken out.old) (W.taken out.new) }
-    ensures version { IsVersion words.now → IsPrinted version_text result.0 (W.taken out.old) (W.taken out.new) }
+    ensures help { IsHelp words.now
+        → IsPrinted help_text result.0 (W.taken out.old) (W.taken out.new) }
+    ensures version { IsVersion words.now
+        → IsPrinted version_text result.0 (W.taken out.old) (W.taken out.new) }
     ensures unread { ((order : Order) → IsOrder words.now order → ⊥)
         → (config.new ≡ config.old) × (input.new ≡ input.old) }
 
-    // CONFIGURATION. A file that is refused is answered with its first refusal, and the input isn't read.
+    // CONFIGURATION. A file that is refused is answered with its first refusal, and the input isn't
+    // read.
     ensures refused { (order : Order) → IsOrder words.now order
-        → IfSome (S.left config.old) (λ file. IsRefusedBy file result.0 (W.taken out.old) (W.taken out.new)) }
+        → IfSome (S.left config.old) (λ file.
+        IsRefusedBy file result.0 (W.taken out.old) (W.taken out.new)) }
     ensures config_untouched { (refusal : ConfigRefusal) → result.0 ≡ Status.Config refusal
         → (input.new ≡ input.old) × (out.new ≡ out.old) }
 
-    // REHEARSAL. What is answered and written is what the texts of the configuration and of the input say; Done only where
-    // the input was read to its end. After each event of the scenario the nodes are in step.
+    // REHEARSAL. What is answered and written is what the texts of the configuration and of the
+    // input say; Done only where the input was read to its end. After each event of the scenario
+    // the nodes are in step.
     ensures tells { (order : Order) → IsOrder words.now order → IfSome (S.left config.old) (λ file.
-        IfSome (I.left input.old) (λ text. TellsOf file text result.0 (W.taken out.old) (W.taken out.new))) }
-    ensures done { (order : Order) → IsOrder words.now order → result.0 ≡ Status.Done → IsAtEnd (I.left input.new) }
+        IfSome (I.left input.old) (λ text.
+        TellsOf file text result.0 (W.taken out.old) (W.taken out.new))) }
+    ensures done { (order : Order) → IsOrder words.now order → result.0 ≡ Status.Done
+        → IsAtEnd (I.left input.new) }
     ensures in_step { IfSome (I.left input.old) (λ text. (is_built : Bool) (n : ℕ)
         → InStep one (world_after one empty_world (take n (events_of is_built text)))) }
 
     // CAUSES. A fault is answered only where the count of what failed rose in this call.
     ensures read { (what : Unreadable) → result.0 ≡ Status.ReadFault what
-        → IsCausedBy what (Rose (S.faults config.old) (S.faults config.new)) (Rose (I.faults input.old) (I.faults input.new)) }
-    ensures read_writes { (what : Unreadable) → result.0 ≡ Status.ReadFault what → W.taken out.new ≡ W.taken out.old }
+        → IsCausedBy what (Rose (S.faults config.old) (S.faults config.new))
+        (Rose (I.faults input.old) (I.faults input.new)) }
+    ensures read_writes { (what : Unreadable) → result.0 ≡ Status.ReadFault what
+        → W.taken out.new ≡ W.taken out.old }
     ensures write { result.0 ≡ Status.WriteFault → Rose (W.faults out.old) (W.faults out.new) }
-    ensures cause { (line : ℕ) (cause : InputCause) → result.0 ≡ Status.BadInput line cause → IsFirstCause cause }
+    ensures cause { (line : ℕ) (cause : InputCause) → result.0 ≡ Status.BadInput line cause
+        → IsFirstCause cause }
     ensures keeper { result.1 ≡ keeper }
     ensures link { link.new ≡ link.old }
 {
@@ -107,12 +121,16 @@ fn play<S: Source, I: Source, W: Sink>(
         IsRefusedBy file result (W.taken out.old) (W.taken out.new)) }
     ensures done { result ≡ Status.Done → IsAtEnd (I.left input.new) }
     ensures words { (place : ℕ) → result ≡ Status.Words place → ⊥ }
-    ensures config_untouched { (refusal : ConfigRefusal) → result ≡ Status.Config refusal → (input.new ≡ input.old) × (out.new ≡ out.old) }
+    ensures config_untouched { (refusal : ConfigRefusal) → result ≡ Status.Config refusal
+        → (input.new ≡ input.old) × (out.new ≡ out.old) }
     ensures read { (what : Unreadable) → result ≡ Status.ReadFault what
-        → IsCausedBy what (Rose (S.faults config.old) (S.faults config.new)) (Rose (I.faults input.old) (I.faults input.new)) }
-    ensures read_writes { (what : Unreadable) → result ≡ Status.ReadFault what → W.taken out.new ≡ W.taken out.old }
+        → IsCausedBy what (Rose (S.faults config.old) (S.faults config.new))
+        (Rose (I.faults input.old) (I.faults input.new)) }
+    ensures read_writes { (what : Unreadable) → result ≡ Status.ReadFault what
+        → W.taken out.new ≡ W.taken out.old }
     ensures write { result ≡ Status.WriteFault → Rose (W.faults out.old) (W.faults out.new) }
-    ensures cause { (line : ℕ) (cause : InputCause) → result ≡ Status.BadInput line cause → IsFirstCause cause }
+    ensures cause { (line : ℕ) (cause : InputCause) → result ≡ Status.BadInput line cause
+        → IsFirstCause cause }
 {
     let config = match read_config(alloc, config) {
         Ok(config) => config,
@@ -123,7 +141,8 @@ fn play<S: Source, I: Source, W: Sink>(
 
 /// Reads the configuration of a file, or says with which status the call ends.
 fn read_config<S: Source>(alloc: Global, source: &mut S) -> Result<Config, Status>
-    ensures ok { IfOk result (λ config. IfSome (S.left source.old) (λ file. IsConfiguration file config)) }
+    ensures ok { IfOk result (λ config.
+        IfSome (S.left source.old) (λ file. IsConfiguration file config)) }
     ensures refused { IfErr result (λ status. IsNoFault status → status ≢ Status.NoMemory
         → IfSome (S.left source.old) (λ file. SaysRefusal file status)) }
     ensures fault { IfErr result (λ status. (what : Unreadable) → status ≡ Status.ReadFault what
@@ -161,16 +180,20 @@ fn play_under<I: Source, W: Sink>(
     noise: [u8; 16],
     out: &mut W,
 ) -> Status
-    ensures tells { config.now ≡ one → IfSome (I.left input.old) (λ text. Tells true text result (W.taken out.old) (W.taken out.new)) }
-    ensures unbuilt { config.now ≢ one → IfSome (I.left input.old) (λ text. Tells false text result (W.taken out.old) (W.taken out.new)) }
+    ensures tells { config.now ≡ one → IfSome (I.left input.old) (λ text.
+        Tells true text result (W.taken out.old) (W.taken out.new)) }
+    ensures unbuilt { config.now ≢ one → IfSome (I.left input.old) (λ text.
+        Tells false text result (W.taken out.old) (W.taken out.new)) }
     ensures done { result ≡ Status.Done → IsAtEnd (I.left input.new) }
     ensures words { (place : ℕ) → result ≡ Status.Words place → ⊥ }
     ensures config { (refusal : ConfigRefusal) → result ≡ Status.Config refusal → ⊥ }
     ensures read { (what : Unreadable) → result ≡ Status.ReadFault what
         → (what ≡ Unreadable.Input) × Rose (I.faults input.old) (I.faults input.new) }
-    ensures read_writes { (what : Unreadable) → result ≡ Status.ReadFault what → W.taken out.new ≡ W.taken out.old }
+    ensures read_writes { (what : Unreadable) → result ≡ Status.ReadFault what
+        → W.taken out.new ≡ W.taken out.old }
     ensures write { result ≡ Status.WriteFault → Rose (W.faults out.old) (W.faults out.new) }
-    ensures cause { (line : ℕ) (cause : InputCause) → result ≡ Status.BadInput line cause → IsFirstCause cause }
+    ensures cause { (line : ℕ) (cause : InputCause) → result ≡ Status.BadInput line cause
+        → IsFirstCause cause }
 {
     let (ending, _keepers) = rehearse(alloc, config, input, noise, out);
     status_by(ending)

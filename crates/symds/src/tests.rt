@@ -1,3 +1,4 @@
+//! The program by its call: each status, what is written, and what is read.
 use crate::command::run;
 use sds_base::{Bytes, List, NoMemory, Txt};
 use sds_outside::{MemKeeper, MemLink, MemSink, MemSource};

@@ -1,5 +1,6 @@
 //! The words that the program is called with, read with `clap`.
-ghost use Rattle.std.specs.Prelude.{◌≡◌, ◌≢◌, ◌⊎◌, List, ℕ, IfOk, IfErr, false, map, option_map, unwrap_or, slice_get, codes};
+ghost use Rattle.std.specs.Prelude.{◌≡◌, ◌≢◌, ◌⊎◌, List, ℕ, IfOk, IfErr, false, map, option_map};
+ghost use Rattle.std.specs.Prelude.{unwrap_or, slice_get, codes};
 ghost use Rattle.clap.specs.Faults.{fault_of};
 ghost use Rattle.clap.specs.Kinds.{FailsBy, IsAmong};
 ghost use Rattle.clap.specs.Matches.{found_of};
@@ -15,8 +16,9 @@ use sds_base::{List, NoMemory, Txt};
 use sds_expressions::plain_number;
 use std::alloc::{AllocError, Global};
 
-/// What the words ask for. The grammar is symds' own: options `--folder F`, `--keeper journal` or `sqlite`, `--port N`, a
-/// command and its words. An option may be written `--x=v`, stands once, and isn't one after `--`.
+/// What the words ask for. The grammar is symds' own: options `--folder F`, `--keeper journal` or
+/// `sqlite`, `--port N`, a command and its words. An option may be written `--x=v`, stands once,
+/// and isn't one after `--`.
 #[derive(Debug, Drop)]
 pub struct Order {
     /// The folder in which the configuration and the node's records lie.
@@ -33,7 +35,8 @@ pub struct Order {
 /// Why words are no order.
 #[derive(Clone, Copy, Debug, PartialEq, Eq)]
 pub enum WordsRefusal {
-    /// The place of the first word after the command that doesn't fit, from 1, or 0 for any other mistake.
+    /// The place of the first word after the command that doesn't fit, from 1, or 0 for any other
+    /// mistake.
     Bad(u32),
     /// They ask for help.
     Help,
@@ -58,7 +61,8 @@ pub fn read_words(alloc: Global, words: &[Txt]) -> Result<Order, WordsRefusal>
 
 /// The words by their texts.
 fn texts_of<'a>(alloc: Global, words: &'a [Txt]) -> Result<Vec<&'a str>, NoMemory>
-    ensures { IfOk result (λ texts. map (λ text. text.now) texts.items ≡ wanted.texts_of words.now) }
+    ensures { IfOk result (λ texts.
+        map (λ text. text.now) texts.items ≡ wanted.texts_of words.now) }
 {
     let mut texts = Vec::new(alloc);
     for word in words {
@@ -162,7 +166,8 @@ fn refusal_of(kind: ErrorKind) -> WordsRefusal
 
 /// The order of the values, or the place of what doesn't fit.
 fn order_of(alloc: Global, matches: &ArgMatches<'_>) -> Result<Order, WordsRefusal>
-    ensures order { IfOk result (λ order. wanted.order_from (rows_of (found_of matches.now)) ≡ Ok order) }
+    ensures order { IfOk result (λ order.
+        wanted.order_from (rows_of (found_of matches.now)) ≡ Ok order) }
     ensures refused { IfErr result (λ why. why ≢ WordsRefusal.NoMemory
         → wanted.IsBadOrder (rows_of (found_of matches.now)) why) }
 {
@@ -211,7 +216,8 @@ fn order_in(alloc: Global, matches: &ArgMatches<'_>) -> Result<Option<Order>, No
 }
 
 fn command_in(alloc: Global, matches: &ArgMatches<'_>) -> Result<Txt, NoMemory>
-    ensures { IfOk result (λ command. command ≡ wanted.command_in (rows_of (found_of matches.now))) }
+    ensures { IfOk result (λ command.
+        command ≡ wanted.command_in (rows_of (found_of matches.now))) }
 {
     match matches.get_str("command") {
         None => Txt::copied(alloc, ""),
@@ -289,7 +295,8 @@ fn rest_in(alloc: Global, matches: &ArgMatches<'_>) -> Result<List<Txt>, NoMemor
 }
 
 fn copies_of(alloc: Global, words: &[&str]) -> Result<List<Txt>, NoMemory>
-    ensures { IfOk result (λ copies. copies ≡ wanted.characters_of (map (λ word. word.now) words.now)) }
+    ensures { IfOk result (λ copies.
+        copies ≡ wanted.characters_of (map (λ word. word.now) words.now)) }
 {
     let mut copies = Vec::new(alloc);
     for word in words {
