@@ -1,3 +1,2 @@
 pub mod history
 pub mod world
-pub mod generator

@@ -23,6 +23,5 @@ pub mod Acks
 pub mod Links
 pub mod Registrations
 pub mod Joins
-pub mod Confirmations
 pub mod Documents
 pub mod Messages

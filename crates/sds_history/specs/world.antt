@@ -1,4 +1,4 @@
--- Worlds of nodes: what happens in them, which lines a scenario may have, and what a person sees.
+-- Worlds of nodes: what happens in them, and when their nodes are in step.
 pub mod Worlds
 pub mod Calling
 pub mod Happened
@@ -10,14 +10,6 @@ pub mod Delivering
 pub mod Answering
 pub mod Exchanging
 pub mod Events
-pub mod Scenes
-pub mod Causes
-pub mod Words
-pub mod Shown
-pub mod Listed
-pub mod Lines
-pub mod Screen
-pub mod WorldAt
 pub mod LaneParts
 pub mod RoutedOnce
 pub mod InStep

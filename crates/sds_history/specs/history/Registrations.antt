@@ -1,21 +1,23 @@
--- What a node answers to openings, registrations and joins, and the acts that it makes.
+-- What a node answers to openings, registrations and confirmations, and the acts that it makes.
 use Rattle.std.specs.Prelude.{ℕ, Bool, true, false, ◌&&◌, ◌||◌, not, nat_le, if◌then◌else◌, List, length, Option, None, Some, is_some, Result, Ok, Err}
+use Rattle.std.specs.List.{list_any}
 use Rattle.std.specs.Str.{bytes_eq}
 use Rattle.sds_value.specs.Binaries.{coded_text}
 use Rattle.sds_value.specs.declared.kind.Binary.TheVariants.{Hex}
 use Rattle.sds_value.specs.declared.row.Peer.{Peer}
 use Rattle.sds_types.specs.Limits.{most_peers}
 use Rattle.sds_types.specs.declared.config.Config.{Config}
+use Rattle.sds_types.specs.declared.node_fault.NodeFault.{NodeFault}
 use Rattle.sds_types.specs.declared.registration.Opening.{Opening}
 use Rattle.sds_types.specs.declared.registration.RegRefusal.{RegRefusal}
 use Rattle.sds_types.specs.declared.registration.RegRefusal.TheVariants.{NotOpen, UnknownGroup, AlreadyOpen, IdTaken, TooManyNodes, Fault}
 use Rattle.sds_types.specs.declared.registration.Stage.{Stage}
 use Rattle.sds_types.specs.declared.registration.Stage.TheVariants.{Waiting, Given, Closed}
 use Rattle.sds_history.specs.history.Acts.{Act, State}
-use Rattle.sds_history.specs.history.Acts.Act.{Opened, Joined}
-use Rattle.sds_history.specs.history.Counters.{answer_within, within}
+use Rattle.sds_history.specs.history.Acts.Act.{Opened, Joined, Confirmed}
+use Rattle.sds_history.specs.history.Counters.{act_if, answer_within, within}
 use Rattle.sds_history.specs.history.Links.{are_linked}
-use Rattle.sds_history.specs.history.Openings.{opening_of, went_to}
+use Rattle.sds_history.specs.history.Openings.{is_given_to, opening_of, went_to}
 use Rattle.sds_history.specs.history.Peers.{kept_peer}
 
 -- OPEN. The token is the noise in hexadecimal digits
@@ -94,3 +96,19 @@ register_answer config state asks = answer_within Fault config state
 
 abbrev pub register_act : Config → State → Peer → Option Act
 register_act config state asks = within config state (next_register state asks)
+
+-- CONFIRM. A peer has shown its token: an opening that is given to it and not closed yet is closed
+abbrev pub is_open_for : State → List ℕ → Bool
+is_open_for state peer =
+    list_any (λ (opening : Opening). is_given_to peer opening.stage) state.openings
+
+abbrev pub next_confirm : State → List ℕ → Option Act
+next_confirm state peer = act_if (is_open_for state peer) (Confirmed peer)
+
+-- a counter, and else it is done
+abbrev pub confirm_answer : Config → State → List ℕ → Result (Unit {0}) NodeFault
+confirm_answer config state peer =
+    answer_within (λ fault. fault) config state (next_confirm state peer) (Ok tt)
+
+abbrev pub confirm_act : Config → State → List ℕ → Option Act
+confirm_act config state peer = within config state (next_confirm state peer)

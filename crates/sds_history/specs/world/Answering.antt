@@ -19,15 +19,12 @@ take_at config node reply = let state = state_in config node in
     call Fault node (acks_act config state reply.from reply.acks)
     (acks_answer config state reply.from reply.acks)
 
-abbrev pub told_acks : World → ℕ → Called ℕ AckRefusal → Happened
-told_acks world number called =
-    tells (with_node world called.node) (Answering number called.answer)
-
 -- where the confirmation fails the acks aren't taken
 abbrev pub confirmed : Config → World → ℕ → Reply → Called (Unit {0}) NodeFault
     → Result (Unit {0}) NodeFault → Happened
 confirmed config world number reply called (Ok done) =
-    told_acks world number (take_at config called.node reply)
+    let taken = take_at config called.node reply in
+    tells (with_node world taken.node) (Answering number taken.answer)
 confirmed config world number reply called (Err fault) =
     tells (with_node world called.node) (Answering number (Err (Fault fault)))
 

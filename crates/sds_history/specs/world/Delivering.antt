@@ -8,7 +8,7 @@ use Rattle.sds_types.specs.declared.node_fault.NodeFault.{NodeFault}
 use Rattle.sds_types.specs.declared.sync.SyncRefusal.{SyncRefusal}
 use Rattle.sds_types.specs.declared.sync.SyncRefusal.TheVariants.{NoWay, Fault}
 use Rattle.sds_history.specs.history.Acts.{State}
-use Rattle.sds_history.specs.history.Confirmations.{confirm_act, confirm_answer}
+use Rattle.sds_history.specs.history.Registrations.{confirm_act, confirm_answer}
 use Rattle.sds_history.specs.history.Messages.{batches_in_parts}
 use Rattle.sds_history.specs.world.Calling.{Called, call}
 use Rattle.sds_history.specs.world.Happened.{Happened, tells, quiet}

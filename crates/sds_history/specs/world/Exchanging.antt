@@ -27,13 +27,12 @@ next_step config world (Delivering number (Ok reply) ∷ []) =
 next_step config world told = quiet world
 
 -- two things that happen one after another
-abbrev pub then_next : Config → Happened → Happened
-then_next config first = let next = next_step config first.world first.told in
-    record { world = next.world; told = first.told ++ next.told }
-
--- what was told last decides what comes next
 abbrev pub after_told : Happened → Happened → Happened
 after_told first next = record { world = next.world; told = first.told ++ next.told }
+
+-- what was told last decides what comes next
+abbrev pub then_next : Config → Happened → Happened
+then_next config first = after_told first (next_step config first.world first.told)
 
 abbrev pub exchanged : Config → Happened → Happened
 exchanged config message =

@@ -3,9 +3,9 @@ use Rattle.std.specs.Prelude.{ℕ, if◌then◌else◌, is_some, List, [], ◌�
 use Rattle.sds_line.specs.declared.line.Line.{Line}
 use Rattle.sds_types.specs.declared.config.Config.{Config}
 use Rattle.sds_scenario.specs.Lines.{line_of}
-use Rattle.sds_history.specs.world.Causes.{cause_of}
-use Rattle.sds_history.specs.world.Scenes.{Scene, first_scene}
-use Rattle.sds_history.specs.world.Screen.{scene_by, split_of}
+use Rattle.sds_screen.specs.Causes.{cause_of}
+use Rattle.sds_screen.specs.Scenes.{Scene, first_scene}
+use Rattle.sds_screen.specs.Screen.{scene_by, split_of}
 use Rattle.sds_history.specs.world.Worlds.{World}
 
 -- the scene after lines, up to the first that may not stand

@@ -11,11 +11,11 @@ use Rattle.sds_types.specs.declared.scenario.ScenarioCause.TheVariants.{BadForm,
 use Rattle.sds_types.specs.declared.scenario.ScenarioLine.{ScenarioLine}
 use Rattle.sds_types.specs.declared.world_event.WorldEvent.{WorldEvent}
 use Rattle.sds_scenario.specs.Lines.{line_of}
-use Rattle.sds_history.specs.world.Causes.{cause_of}
+use Rattle.sds_screen.specs.Causes.{cause_of}
 use Rattle.sds_history.specs.world.Events.{happened}
 use Rattle.sds_history.specs.world.Happened.{Happened, quiet}
-use Rattle.sds_history.specs.world.Lines.{told_text}
-use Rattle.sds_history.specs.world.Scenes.{Draft, Scene, first_scene, event_at, draft_after}
+use Rattle.sds_screen.specs.Lines.{told_text}
+use Rattle.sds_screen.specs.Scenes.{Draft, Scene, first_scene, event_at, draft_after}
 use Rattle.sds_history.specs.world.Worlds.{World}
 
 -- TEXT. What is looked at: all of it, or, of one that is too long, what stands before the line that

@@ -16,7 +16,7 @@ use Rattle.sds_types.specs.declared.peer.KeptPeer.{KeptPeer}
 use Rattle.sds_trade.specs.rules.Batches.{channels_in_order}
 use Rattle.sds_history.specs.history.Acts.{State}
 use Rattle.sds_history.specs.history.Lanes.{channel_name, is_lane}
-use Rattle.sds_history.specs.world.Words.{line_of_words}
+use Rattle.sds_screen.specs.Words.{line_of_words}
 
 -- a batch of the node: its number, peer, channel, count of changes and status, and for an error its
 -- row and rule

@@ -8,7 +8,7 @@ use Rattle.sds_types.specs.declared.scenario.ScenarioLine.{ScenarioLine}
 use Rattle.sds_types.specs.declared.scenario.ScenarioLine.TheVariants as line
 use Rattle.sds_trade.specs.rules.Outcomes.{channel_place}
 use Rattle.sds_trade.specs.rules.Places.{is_among}
-use Rattle.sds_history.specs.world.Scenes.{Draft, Scene}
+use Rattle.sds_screen.specs.Scenes.{Draft, Scene}
 use Rattle.sds_history.specs.world.Worlds.{World, node_at}
 
 abbrev pub is_node : World → List ℕ → Bool

@@ -13,8 +13,8 @@ use Rattle.sds_value.specs.declared.row.Peer.{Peer}
 use Rattle.sds_types.specs.declared.tx_row.TxRow.{TxRow}
 use Rattle.sds_types.specs.declared.world_event.WorldEvent.{WorldEvent}
 use Rattle.sds_types.specs.declared.world_event.WorldEvent.TheVariants as event
-use Rattle.sds_history.specs.generator.Drawn.{item_of_step, pieces_of_step, price_of_step, store_of_step}
-use Rattle.sds_history.specs.generator.Shop.{shop}
+use Rattle.sds_screen.specs.generator.Drawn.{item_of_step, pieces_of_step, price_of_step, store_of_step}
+use Rattle.sds_screen.specs.generator.Shop.{shop}
 use Rattle.sds_history.specs.history.Writers.{last_number, writer_of}
 use Rattle.sds_history.specs.world.Worlds.{Node, World, node_at, state_in}
 

@@ -4,13 +4,13 @@ use Rattle.std.specs.Fmt.{decimal}
 use Rattle.std.specs.List.{filter, sum_by}
 use Rattle.std.specs.Option.{option_map_or}
 use Rattle.sds_types.specs.declared.row.TableRow.{TableRow}
-use Rattle.sds_history.specs.generator.Drawn.{drawn_after, kind_of_step}
-use Rattle.sds_history.specs.generator.Shop.{shop}
-use Rattle.sds_history.specs.generator.Settled.{generated, waiting_at}
-use Rattle.sds_history.specs.generator.Written.{corp, store, store_numbers}
+use Rattle.sds_screen.specs.generator.Drawn.{drawn_after, kind_of_step}
+use Rattle.sds_screen.specs.generator.Shop.{shop}
+use Rattle.sds_screen.specs.generator.Settled.{generated, waiting_at}
+use Rattle.sds_screen.specs.generator.Written.{corp, store, store_numbers}
 use Rattle.sds_history.specs.history.Acts.{Act}
 use Rattle.sds_history.specs.history.Acts.Act.{Wrote}
-use Rattle.sds_history.specs.world.Words.{line_of_words}
+use Rattle.sds_screen.specs.Words.{line_of_words}
 use Rattle.sds_history.specs.world.Worlds.{Node, World, me_of, node_at, state_in}
 
 -- the accepted writes of a node

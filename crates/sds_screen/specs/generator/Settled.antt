@@ -5,12 +5,12 @@ use Rattle.std.specs.Option.{option_map_or}
 use Rattle.sds_types.specs.declared.batch.OutBatch.{OutBatch}
 use Rattle.sds_types.specs.declared.world_event.WorldEvent.{WorldEvent}
 use Rattle.sds_types.specs.declared.world_event.WorldEvent.TheVariants as event
-use Rattle.sds_history.specs.generator.Drawn.{drawn_after}
-use Rattle.sds_history.specs.generator.Shop.{shop}
+use Rattle.sds_screen.specs.generator.Drawn.{drawn_after}
+use Rattle.sds_screen.specs.generator.Shop.{shop}
 use Rattle.sds_history.specs.history.Standings.{is_acked}
 use Rattle.sds_history.specs.world.Worlds.{Node, World, empty_world, node_at, state_in}
-use Rattle.sds_history.specs.generator.Written.{corp, store, store_numbers}
-use Rattle.sds_history.specs.generator.Steps.{after_event, after_events, after_steps, filled, first_events}
+use Rattle.sds_screen.specs.generator.Written.{corp, store, store_numbers}
+use Rattle.sds_screen.specs.generator.Steps.{after_event, after_events, after_steps, filled, first_events}
 
 -- how many batches of a node aren't OK
 abbrev pub waiting_at : World → List ℕ → ℕ

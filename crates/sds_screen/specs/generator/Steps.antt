@@ -3,11 +3,11 @@ use Rattle.std.specs.Prelude.{ℕ, ◌+◌, ◌==◌, nat_le, if◌then◌else�
 use Rattle.std.specs.List.{range_with_len}
 use Rattle.sds_types.specs.declared.world_event.WorldEvent.{WorldEvent}
 use Rattle.sds_types.specs.declared.world_event.WorldEvent.TheVariants as event
-use Rattle.sds_history.specs.generator.Drawn.{kind_of_step, store_of_step}
-use Rattle.sds_history.specs.generator.Shop.{shop}
+use Rattle.sds_screen.specs.generator.Drawn.{kind_of_step, store_of_step}
+use Rattle.sds_screen.specs.generator.Shop.{shop}
 use Rattle.sds_history.specs.world.Events.{happened}
 use Rattle.sds_history.specs.world.Worlds.{World}
-use Rattle.sds_history.specs.generator.Written.{corp, store, external_of, store_peer, store_numbers, write_next, item_row, price_row, sale_row}
+use Rattle.sds_screen.specs.generator.Written.{corp, store, external_of, store_peer, store_numbers, write_next, item_row, price_row, sale_row}
 
 -- the world after events
 abbrev pub after_event : List ℕ → World → WorldEvent → World

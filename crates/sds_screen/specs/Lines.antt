@@ -9,9 +9,9 @@ use Rattle.sds_types.specs.declared.sync.SyncRefusal.{SyncRefusal}
 use Rattle.sds_history.specs.history.Acts.{State}
 use Rattle.sds_history.specs.world.Happened.{Told}
 use Rattle.sds_history.specs.world.Happened.Told.{Opening, Registering, Writing, Routing, Sending, Delivering, Answering, NoPush, NoPull, Bytes, Tables, Batches, Crashed}
-use Rattle.sds_history.specs.world.Listed.{batches_text}
-use Rattle.sds_history.specs.world.Shown.{message_text, tables_text}
-use Rattle.sds_history.specs.world.Words.{answer_words, batches_words, delivery_words, registration_words, route_words, spaced, sync_words, write_words}
+use Rattle.sds_screen.specs.Listed.{batches_text}
+use Rattle.sds_screen.specs.Shown.{message_text, tables_text}
+use Rattle.sds_screen.specs.Words.{answer_words, batches_words, delivery_words, registration_words, route_words, spaced, sync_words, write_words}
 use Rattle.sds_history.specs.world.Worlds.{Node, World, message_of, node_at, state_in}
 
 -- a line: what was asked, a colon, and the answer

@@ -1,0 +1,5 @@
+use Rattle.sds_examples.proofs.DocumentsComputed.{document_is_written}
+use Rattle.sds_examples.proofs.documents.a_document_is_written.Goals as goal
+
+pub returns : goal.returns
+returns c = document_is_written

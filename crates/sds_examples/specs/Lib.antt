@@ -1,0 +1,8 @@
+pub mod Lines
+pub mod Repeats
+pub mod Faults
+pub mod HeldLanes
+pub mod Conflicts
+pub mod Tiers
+pub mod Day
+pub mod Documents

@@ -1,0 +1,9 @@
+pub mod Scenes
+pub mod Causes
+pub mod Words
+pub mod Shown
+pub mod Listed
+pub mod Lines
+pub mod Screen
+pub mod WorldAt
+pub mod generator
