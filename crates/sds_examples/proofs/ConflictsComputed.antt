@@ -7,20 +7,20 @@ use Rattle.sds_examples.specs.Conflicts.{FallbackTakes, IgnoreSkipsTheRow, Ignor
 
 pub fallback_takes : FallbackTakes
 unfolding encode digits chars
-fallback_takes = record { screen = refl; stands = refl }
+fallback_takes = record { prints = refl; stands = refl }
 
 pub ignore_skips_the_row : IgnoreSkipsTheRow
 unfolding encode digits chars
-ignore_skips_the_row = record { screen = refl; stands = refl }
+ignore_skips_the_row = record { prints = refl; stands = refl }
 
 pub ignore_skips_the_batch : IgnoreSkipsTheBatch
 unfolding encode digits chars
-ignore_skips_the_batch = record { screen = refl; stands = refl }
+ignore_skips_the_batch = record { prints = refl; stands = refl }
 
 pub manual_waits : ManualWaits
 unfolding encode digits chars
-manual_waits = record { screen = refl; stands = refl }
+manual_waits = record { prints = refl; stands = refl }
 
 pub greater_version_stands : GreaterVersionStands
 unfolding encode digits chars
-greater_version_stands = record { screen = refl; stands = refl }
+greater_version_stands = record { prints = refl; stands = refl }

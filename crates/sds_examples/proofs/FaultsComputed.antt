@@ -7,4 +7,4 @@ use Rattle.sds_examples.specs.Faults.{FaultsLoseNothing}
 
 pub faults_lose_nothing : FaultsLoseNothing
 unfolding encode digits chars
-faults_lose_nothing = record { screen = refl; stands = refl }
+faults_lose_nothing = record { prints = refl; stands = refl }

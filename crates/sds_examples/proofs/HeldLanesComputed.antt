@@ -7,4 +7,4 @@ use Rattle.sds_examples.specs.HeldLanes.{ErrorsHoldLanes}
 
 pub errors_hold_lanes : ErrorsHoldLanes
 unfolding encode digits chars
-errors_hold_lanes = record { screen = refl; stands = refl }
+errors_hold_lanes = record { prints = refl; stands = refl }

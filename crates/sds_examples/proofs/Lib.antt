@@ -1,4 +1,5 @@
 pub mod DocumentsComputed
+pub mod DayComputed
 pub mod RepeatsComputed
 pub mod FaultsComputed
 pub mod HeldLanesComputed

@@ -7,4 +7,4 @@ use Rattle.sds_examples.specs.Repeats.{RepeatsLoadOnce}
 
 pub repeats_load_once : RepeatsLoadOnce
 unfolding encode digits chars
-repeats_load_once = record { screen = refl; stands = refl }
+repeats_load_once = record { prints = refl; stands = refl }

@@ -7,8 +7,8 @@ use Rattle.sds_examples.specs.Tiers.{NothingComesBack, PingBackComesBack}
 
 pub nothing_comes_back : NothingComesBack
 unfolding encode digits chars
-nothing_comes_back = record { screen = refl; stands = refl }
+nothing_comes_back = record { prints = refl; stands = refl }
 
 pub ping_back_comes_back : PingBackComesBack
 unfolding encode digits chars
-ping_back_comes_back = record { screen = refl; stands = refl }
+ping_back_comes_back = record { prints = refl; stands = refl }

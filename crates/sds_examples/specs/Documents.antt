@@ -33,7 +33,7 @@ rows =
     sale Insert id_and_note (text (codes "a") ∷ text (codes "2 pens") ∷ []) [] None
     ∷ sale Insert id_and_note (text (codes "b") ∷ Null ∷ []) [] None
     ∷ sale Update id_and_note (text (codes "b") ∷ text [] ∷ []) (text (codes "b") ∷ [])
-      (Some (text (codes "b") ∷ Null ∷ []))
+    (Some (text (codes "b") ∷ Null ∷ []))
     ∷ sale Delete (codes "id" ∷ []) [] (text (codes "a") ∷ []) (Some (text (codes "a") ∷ []))
     ∷ record {
       event = Update;

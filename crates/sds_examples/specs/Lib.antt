@@ -4,5 +4,5 @@ pub mod Faults
 pub mod HeldLanes
 pub mod Conflicts
 pub mod Tiers
-pub mod Day
 pub mod Documents
+pub mod Day

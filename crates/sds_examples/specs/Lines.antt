@@ -7,7 +7,7 @@ use Rattle.sds_screen.specs.Screen.{scenario_screen, scenario_refusal}
 
 -- each of the lines may stand, and this is what they print
 pub record Prints (config : Config) (lines screen : List (List ℕ)) : Type 0 where
-  pub screen : scenario_screen config [] (text_of_lines lines) ≡ text_of_lines screen
+  pub prints : scenario_screen config [] (text_of_lines lines) ≡ text_of_lines screen
   pub stands : scenario_refusal config [] (text_of_lines lines) ≡ None
 
 -- corp, and the store s1 that registered there

@@ -2,10 +2,16 @@
 ghost use Rattle.sds_examples.specs.Conflicts.{FallbackTakes, IgnoreSkipsTheRow};
 ghost use Rattle.sds_examples.specs.Conflicts.{IgnoreSkipsTheBatch, ManualWaits};
 ghost use Rattle.sds_examples.specs.Conflicts.{GreaterVersionStands};
+ghost use Rattle.sds_examples.specs.Day.{DayPrints};
 ghost use Rattle.sds_examples.specs.Faults.{FaultsLoseNothing};
 ghost use Rattle.sds_examples.specs.HeldLanes.{ErrorsHoldLanes};
 ghost use Rattle.sds_examples.specs.Repeats.{RepeatsLoadOnce};
 ghost use Rattle.sds_examples.specs.Tiers.{NothingComesBack, PingBackComesBack};
+
+/// A day of a head office and two stores, from the scenario's text to the last line of its screen.
+pub fn a_day_prints()
+    ensures prints { DayPrints }
+{}
 
 /// A message that is delivered three times is loaded once, and the stock that it brings is added up
 /// once.
