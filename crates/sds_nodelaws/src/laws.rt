@@ -1,0 +1,32 @@
+//! Laws of every history of a node.
+ghost use Rattle.sds_nodelaws.specs.Counters.{CountersNeverFall, MarkStaysWithin};
+ghost use Rattle.sds_nodelaws.specs.Counters.{ChangesCountOn, BatchesCountOn};
+ghost use Rattle.sds_nodelaws.specs.Standings.{OkIsFinal};
+
+/// No counter of a node ever falls: not that of its acts, changes, batches or transactions, nor the
+/// last change that was routed.
+pub fn counters_never_fall()
+    ensures fall { CountersNeverFall }
+{}
+
+/// No change is routed that wasn't captured.
+pub fn mark_stays_within()
+    ensures within { MarkStaysWithin }
+{}
+
+/// The changes that a node captures are numbered on without a gap, and its counter is the last of
+/// these numbers.
+pub fn changes_count_on()
+    ensures count { ChangesCountOn }
+{}
+
+/// The batches that a node makes are numbered on without a gap, so their ids rise, and its counter
+/// is the last of these ids.
+pub fn batches_count_on()
+    ensures count { BatchesCountOn }
+{}
+
+/// A batch that was acknowledged stays so: no later act changes anything of it.
+pub fn ok_is_final()
+    ensures stays { OkIsFinal }
+{}

@@ -1,0 +1,9 @@
+//! What holds of every history of a node, under every configuration and whatever acts it made. Each
+//! law is the contract of a function without a body.
+#![tactic(auto)]
+
+mod laws;
+
+pub use laws::{
+    batches_count_on, changes_count_on, counters_never_fall, mark_stays_within, ok_is_final,
+};
