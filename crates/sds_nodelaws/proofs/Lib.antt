@@ -1,2 +1,5 @@
 pub mod Counted
 pub mod Finals
+pub mod Items
+pub mod Made
+pub mod Writing

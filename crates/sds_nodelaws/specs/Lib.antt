@@ -1,2 +1,4 @@
 pub mod Counters
 pub mod Standings
+pub mod Calls
+pub mod Writers

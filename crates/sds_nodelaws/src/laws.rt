@@ -2,6 +2,7 @@
 ghost use Rattle.sds_nodelaws.specs.Counters.{CountersNeverFall, MarkStaysWithin};
 ghost use Rattle.sds_nodelaws.specs.Counters.{ChangesCountOn, BatchesCountOn};
 ghost use Rattle.sds_nodelaws.specs.Standings.{OkIsFinal};
+ghost use Rattle.sds_nodelaws.specs.Writers.{WritersCount, LastIsKept};
 
 /// No counter of a node ever falls: not that of its acts, changes, batches or transactions, nor the
 /// last change that was routed.
@@ -29,4 +30,11 @@ pub fn batches_count_on()
 /// A batch that was acknowledged stays so: no later act changes anything of it.
 pub fn ok_is_final()
     ensures stays { OkIsFinal }
+{}
+
+/// Whatever is asked of a node that began, the writes that it made of each writer are numbered 1, 2,
+/// 3 and so on, each once; and what it keeps of a writer is the number of its last write.
+pub fn writers_count()
+    ensures count { WritersCount }
+    ensures last { LastIsKept }
 {}
