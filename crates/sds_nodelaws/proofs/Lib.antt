@@ -3,3 +3,7 @@ pub mod Finals
 pub mod Items
 pub mod Made
 pub mod Writing
+pub mod Held
+pub mod Targets
+pub mod Channels
+pub mod Routing

@@ -2,3 +2,4 @@ pub mod Counters
 pub mod Standings
 pub mod Calls
 pub mod Writers
+pub mod Routing

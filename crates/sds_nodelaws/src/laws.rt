@@ -1,6 +1,7 @@
 //! Laws of every history of a node.
 ghost use Rattle.sds_nodelaws.specs.Counters.{CountersNeverFall, MarkStaysWithin};
 ghost use Rattle.sds_nodelaws.specs.Counters.{ChangesCountOn, BatchesCountOn};
+ghost use Rattle.sds_nodelaws.specs.Routing.{RoutedInOneBatch};
 ghost use Rattle.sds_nodelaws.specs.Standings.{OkIsFinal};
 ghost use Rattle.sds_nodelaws.specs.Writers.{WritersCount, LastIsKept};
 
@@ -37,4 +38,10 @@ pub fn ok_is_final()
 pub fn writers_count()
     ensures count { WritersCount }
     ensures last { LastIsKept }
+{}
+
+/// Each change that a routing run took stands in exactly one batch to each peer that the routers
+/// named for it at that run, by the tables and peers as they were then, and in no other batch.
+pub fn changes_are_routed_once()
+    ensures once { RoutedInOneBatch }
 {}
