@@ -1,6 +1,6 @@
 -- Of the channels in order each of the configuration's stands once.
-use Rattle.std.proofs.Common.{◌≡◌, ◌≢◌, ℕ, zero, suc, ◌+◌, ◌<◌, ◌≤◌, Bool, true, false, cond, List, [], ◌∷◌, ◌++◌, length, Ordering, Less, Equal, Greater, refl, sym, ap, subst, ◌∙◌, arith, true≢false, filter, ◌==◌, All, AllPairs, nat_cmp, append-nil, inl, inr, ◌⊎◌}
-use Rattle.std.specs.Cmp.{IsTotalOrder, then_flip}
+use Rattle.std.proofs.Common.{◌≡◌, ◌≢◌, ℕ, zero, suc, ◌+◌, ◌<◌, Bool, true, false, cond, List, [], ◌∷◌, ◌++◌, length, Ordering, Less, Equal, Greater, refl, sym, ap, ◌∙◌, arith, true≢false, filter, ◌==◌, All, AllPairs, nat_cmp, append-nil, inl, inr, ◌⊎◌}
+use Rattle.std.specs.Cmp.{then_flip}
 use Rattle.std.specs.Cmp.Lexicographic.{slice_cmp}
 use Rattle.std.specs.List.{enumerate_from, flat_map}
 use Rattle.std.specs.Ordering.{is_eq, is_lt, ordering_reverse, ordering_then}
@@ -13,7 +13,7 @@ use Rattle.std.proofs.lemmas.Map.Text.{is_eq-slice_cmp}
 use Rattle.std.proofs.lemmas.Slice.Eq.{bytes_eq-Decides}
 use Rattle.sds_types.specs.declared.channel.ChannelDef.{ChannelDef}
 use Rattle.sds_trade.proofs.Lists.{all_head, all_tail, pairs_head, pairs_tail}
-use Rattle.sds_trade.specs.rules.Batches.{channel_order, goes_before, sorted_channels, with_channel}
+use Rattle.sds_trade.specs.rules.Batches.{channel_order, goes_before, sorted_channels}
 
 abbrev pub At : Type 0
 At = ℕ × ChannelDef
@@ -208,7 +208,7 @@ pub sorted_at : (place : ℕ) (ats : List At) → AllPairs PlacesApart ats → A
 sorted_at place [] places ids = refl
 sorted_at place (at ∷ ats) places ids =
     let same : filter (is_at place) (sorted_channels ats) ≡ filter (is_at place) ats =
-        sorted_at place ats (pairs_tail PlacesApart at ats places) (pairs_tail IdsApart at ats ids) in
+    sorted_at place ats (pairs_tail PlacesApart at ats places) (pairs_tail IdsApart at ats ids) in
     filter-append (is_at place) (filter (λ (other : At). goes_before other at) (sorted_channels ats))
     (at ∷ filter (λ (other : At). goes_before at other) (sorted_channels ats))
     ∙ with_on place at (sorted_channels ats) ats (is_at place at) refl same (λ is. none_at place at ats is (pairs_head PlacesApart at ats places))
@@ -252,25 +252,32 @@ ids_apart n (def ∷ defs) are =
 -- the channel at a place
 at_place : (n k : ℕ) (defs : List ChannelDef) → k < length defs → (def : ChannelDef) × (filter (is_at (n + k)) (enumerate_from n defs) ≡ (n + k, def) ∷ [])
 at_place n k [] within = absurd (omega (arith, within))
-at_place n zero (def ∷ defs) within =
-    (def, ap (λ b. cond b ((n, def) ∷ filter (is_at (n + zero)) (enumerate_from (n + 1) defs)) (filter (is_at (n + zero)) (enumerate_from (n + 1) defs))) (here n)
-    ∙ (ap (λ l. (n, def) ∷ l) (none_at (n + zero) (n, def) (enumerate_from (n + 1) defs) (here n)
-    (λ j d inside. above_on n _ (places_above n (n + 1) defs (next_above n) j d inside)))
-    ∙ ap (λ m. (m, def) ∷ []) (no_more n)))
+at_place n zero (def ∷ defs) within = (
+  def,
+  ap (λ b. cond b ((n, def) ∷ filter (is_at (n + zero)) (enumerate_from (n + 1) defs)) (filter (is_at (n + zero)) (enumerate_from (n + 1) defs))) (here n)
+      ∙ (ap (λ l. (n, def) ∷ l) (none_at (n + zero) (n, def) (enumerate_from (n + 1) defs) (here n)
+      (λ j d inside. above_on n _ (places_above n (n + 1) defs (next_above n) j d inside)))
+      ∙ ap (λ m. (m, def) ∷ []) (no_more n)),
+)
   where
     here : (a : ℕ) → ((a + zero) == a) ≡ true
     here a = grind (arith, nat_tests)
+
     no_more : (a : ℕ) → a ≡ a + zero
     no_more a = omega arith
 at_place n (suc k) (def ∷ defs) within =
-    let (found, is) = at_place (n + 1) k defs (less k (length defs) within) in
-    (found, ap (λ b. cond b ((n, def) ∷ filter (is_at (n + suc k)) (enumerate_from (n + 1) defs)) (filter (is_at (n + suc k)) (enumerate_from (n + 1) defs))) (past n k)
-    ∙ (ap (λ m. filter (is_at m) (enumerate_from (n + 1) defs)) (next n k) ∙ (is ∙ ap (λ m. (m, found) ∷ []) (sym (next n k)))))
+    let (found, is) = at_place (n + 1) k defs (less k (length defs) within) in (
+      found,
+      ap (λ b. cond b ((n, def) ∷ filter (is_at (n + suc k)) (enumerate_from (n + 1) defs)) (filter (is_at (n + suc k)) (enumerate_from (n + 1) defs))) (past n k)
+          ∙ (ap (λ m. filter (is_at m) (enumerate_from (n + 1) defs)) (next n k) ∙ (is ∙ ap (λ m. (m, found) ∷ []) (sym (next n k)))),
+    )
   where
     past : (a b : ℕ) → ((a + suc b) == a) ≡ false
     past a b = grind (arith, nat_tests)
+
     next : (a b : ℕ) → a + suc b ≡ (a + 1) + b
     next a b = omega arith
+
     less : (a b : ℕ) → suc a < suc b → a < b
     less a b more = omega (arith, more)
 

@@ -60,7 +60,7 @@ mark_rises (Acked from acks) last mark within = same_most mark
 first_mark : (n : ℕ) (m : ℕ) → m ≤ n → m ≤ n + 0
 first_mark n m within = omega (arith, within)
 
-mark_within : (config : Config) (opening : State) (runs : List Run) → IsMarked opening → mark_after config opening runs ≤ last_change_after config opening runs
+pub mark_within : (config : Config) (opening : State) (runs : List Run) → IsMarked opening → mark_after config opening runs ≤ last_change_after config opening runs
 mark_within config opening [] marked = first_mark opening.counts.last_change opening.counts.routed marked
 mark_within config opening (run ∷ older) marked =
     at_most (mark_after config opening (run ∷ older)) (last_change_after config opening older) (last_change_after config opening (run ∷ older))
@@ -154,7 +154,7 @@ captured_ids config opening first tx run =
 start : (a n : ℕ) → (a + n) + 1 ≡ (a + 1) + n
 start a n = omega arith
 
-ids_after : (config : Config) (opening : State) (runs : List Run)
+pub ids_after : (config : Config) (opening : State) (runs : List Run)
     → change_ids (changes_after config opening runs)
     ≡ change_ids opening.changes ++ range_with_len (opening.counts.last_change + 1) (captured_count config opening runs)
 ids_after config opening [] = sym (append-nil (change_ids opening.changes))

@@ -7,3 +7,4 @@ pub mod Held
 pub mod Targets
 pub mod Channels
 pub mod Routing
+pub mod Routes

@@ -1,13 +1,12 @@
 -- Each change that was routed stands in one batch to each peer that it was for.
-use Rattle.std.proofs.Common.{◌≡◌, ◌≢◌, ℕ, zero, suc, ◌+◌, ◌<◌, ◌≤◌, Bool, true, false, cond, List, [], ◌∷◌, ◌++◌, length, map, Option, None, Some, refl, sym, ap, subst, ◌∙◌, arith, true≢false, filter, ◌||◌, ◌&&◌, ◌==◌, All, AllPairs, append_assoc, append-nil, max}
-use Rattle.std.specs.List.{enumerate_from, flat_map, fold, list_any, range_with_len}
+use Rattle.std.proofs.Common.{◌≡◌, ◌≢◌, ℕ, zero, suc, ◌+◌, ◌<◌, ◌≤◌, Bool, true, false, cond, List, [], ◌∷◌, ◌++◌, length, map, Some, refl, sym, ap, subst, ◌∙◌, arith, filter, ◌&&◌, All, AllPairs, append_assoc}
+use Rattle.std.specs.List.{enumerate_from, flat_map, range_with_len}
 use Rattle.std.specs.Option.{option_map_or}
-use Rattle.std.specs.Prelude.{nat_lt, slice_get}
-use Rattle.std.proofs.lemmas.Bool.Decides.{nat_tests}
+use Rattle.std.specs.Prelude.{slice_get}
 use Rattle.std.proofs.lemmas.Grind.{flat_map-append}
 use Rattle.std.proofs.lemmas.List.{map-append}
 use Rattle.std.proofs.lemmas.List.Concat.{flat_map-cons}
-use Rattle.std.proofs.lemmas.List.Elements.{All-nil, All-cons, All-append, All-filter, filter-append}
+use Rattle.std.proofs.lemmas.List.Elements.{All-nil, All-cons}
 use Rattle.std.proofs.lemmas.List.Kept.{AllPairs-filter}
 use Rattle.sds_value.specs.declared.row.Peer.{Peer}
 use Rattle.sds_types.specs.declared.batch.NewBatch.{NewBatch}
@@ -19,14 +18,14 @@ use Rattle.sds_types.specs.declared.row.TableRow.{TableRow}
 use Rattle.sds_trade.proofs.ChangeLaws.{peers_are_named_once}
 use Rattle.sds_trade.proofs.CutLaw.{cut_is_a_cut}
 use Rattle.sds_trade.proofs.Lists.{all_head, all_tail}
-use Rattle.sds_trade.specs.rules.Batches.{batch_in, batches_of, channels_in_order, lane_batches, lane_changes, numbered_batch, peers_named, routed_changes}
+use Rattle.sds_trade.specs.rules.Batches.{batches_of, channels_in_order, lane_batches, lane_changes, peers_named, routed_changes}
 use Rattle.sds_trade.specs.rules.Cuts.{changes_in, cut}
 use Rattle.sds_trade.specs.rules.Named.{is_named, targets_of}
 use Rattle.sds_history.specs.history.Made.{out_batch}
 use Rattle.sds_history.specs.world.RoutedOnce.{holders_of, holds}
 use Rattle.sds_nodelaws.proofs.Channels.{At, given_once, is_at, numbered_all, sorted_all}
 use Rattle.sds_nodelaws.proofs.Held.{Apart, all_of, filter_one, first_all, flat_same, has_id, held, held_flat, held_numbered, held_pieces, holds_id, in_lane, lane_filter, last_all, mapped}
-use Rattle.sds_nodelaws.proofs.Targets.{Below, Finds, fold_each, is_in, one_if, targets_found}
+use Rattle.sds_nodelaws.proofs.Targets.{Below, fold_each, is_in, one_if, targets_found}
 
 -- A CHANGE among others, which is for these peers
 pub record Among (changes : List Change) (change : Change) : Type 0 where
@@ -94,13 +93,13 @@ counted targets changes change among =
     let routed : List (Change × List ℕ) = map (λ (c : Change). (c, targets c)) changes in
     let all : List ℕ = flat_map (λ (at : Change × List ℕ). at.1) routed in
     let split : routed ≡ map (λ (c : Change). (c, targets c)) among.before ++ (change, targets change) ∷ map (λ (c : Change). (c, targets c)) among.later =
-        ap (map (λ (c : Change). (c, targets c))) among.same ∙ map-append (λ (c : Change). (c, targets c)) among.before (change ∷ among.later) in
+    ap (map (λ (c : Change). (c, targets c))) among.same ∙ map-append (λ (c : Change). (c, targets c)) among.before (change ∷ among.later) in
     let each : All (λ (t : ℕ). t + 1 ≤ peers_named routed) all =
-        unmapped (λ (x : ℕ). x ≤ peers_named routed) (λ (t : ℕ). t + 1) all (fold_each 0 (map (λ (t : ℕ). t + 1) all)) in
+    unmapped (λ (x : ℕ). x ≤ peers_named routed) (λ (t : ℕ). t + 1) all (fold_each 0 (map (λ (t : ℕ). t + 1) all)) in
     let mine : All (λ (t : ℕ). t + 1 ≤ peers_named routed) (targets change) =
-        flat_part (λ (t : ℕ). t + 1 ≤ peers_named routed) (λ (at : Change × List ℕ). at.1) (map (λ (c : Change). (c, targets c)) among.before)
-        (change, targets change) (map (λ (c : Change). (c, targets c)) among.later)
-        (subst (λ r. All (λ (t : ℕ). t + 1 ≤ peers_named routed) (flat_map (λ (at : Change × List ℕ). at.1) r)) split each) in
+    flat_part (λ (t : ℕ). t + 1 ≤ peers_named routed) (λ (at : Change × List ℕ). at.1) (map (λ (c : Change). (c, targets c)) among.before)
+    (change, targets change) (map (λ (c : Change). (c, targets c)) among.later)
+    (subst (λ r. All (λ (t : ℕ). t + 1 ≤ peers_named routed) (flat_map (λ (at : Change × List ℕ). at.1) r)) split each) in
     λ k d within. below_on _ (peers_named routed) (mine k d within)
 
 -- THE RUN. Its batches hold a change for its peers, each once

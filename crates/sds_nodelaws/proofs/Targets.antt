@@ -1,5 +1,5 @@
 -- The places of peers that ascend are those that a range finds among them.
-use Rattle.std.proofs.Common.{◌≡◌, ◌≢◌, ℕ, zero, suc, ◌+◌, ◌<◌, ◌≤◌, Bool, true, false, cond, List, [], ◌∷◌, ◌++◌, length, refl, sym, ap, subst, ◌∙◌, arith, true≢false, ◌||◌, ◌==◌, All, AllPairs, max}
+use Rattle.std.proofs.Common.{◌≡◌, ℕ, zero, suc, ◌+◌, ◌<◌, ◌≤◌, Bool, true, false, cond, List, [], ◌∷◌, ◌++◌, refl, sym, ap, ◌∙◌, arith, ◌||◌, ◌==◌, All, AllPairs, max}
 use Rattle.std.specs.List.{flat_map, fold, list_any, range_with_len}
 use Rattle.std.proofs.Math.Nat.{le-max_left, le-max_right}
 use Rattle.std.proofs.lemmas.Bool.Decides.{nat_tests}
@@ -24,7 +24,7 @@ above a n more = grind (arith, nat_tests)
 one_less : (a m : ℕ) → a + 1 ≤ m → a ≤ m
 one_less a m more = omega (arith, more)
 
-range_above : (a n : ℕ) → All (λ (k : ℕ). a ≤ k) (range_with_len a n)
+pub range_above : (a n : ℕ) → All (λ (k : ℕ). a ≤ k) (range_with_len a n)
 range_above a zero = All-nil (λ (k : ℕ). a ≤ k)
 range_above a (suc n) = All-cons (λ (k : ℕ). a ≤ k) a (range_with_len (a + 1) n) (omega arith)
     (mapped (λ (k : ℕ). a + 1 ≤ k) (λ (k : ℕ). a ≤ k) (range_with_len (a + 1) n) (λ k more. one_less a k more) (range_above (a + 1) n))
@@ -34,6 +34,7 @@ nothing_in [] place more = refl
 nothing_in (target ∷ targets) place more =
     ap (λ b. b || is_in targets place) (above place target (all_head (λ (t : ℕ). suc place ≤ t) target targets more))
     ∙ nothing_in targets place (all_tail (λ (t : ℕ). suc place ≤ t) target targets more)
+
 none_in_range : (targets : List ℕ) (a n : ℕ) → targets ≡ [] → flat_map (λ (p : ℕ). one_if (is_in targets p) p) (range_with_len a n) ≡ []
 none_in_range targets a zero none = refl
 none_in_range targets a (suc n) none =

@@ -1,5 +1,5 @@
 -- Each change that was routed stands in one batch to each peer that it was for.
-use Rattle.std.specs.Prelude.{ℕ, Bool, List}
+use Rattle.std.specs.Prelude.{Bool, List}
 use Rattle.sds_value.specs.declared.row.Peer.{Peer}
 use Rattle.sds_types.specs.declared.config.Config.{Config}
 use Rattle.sds_trade.specs.rules.Sound.{IsSound}
