@@ -1,5 +1,5 @@
 //! Laws of the configuration file.
-ghost use Rattle.std.specs.Prelude.{◌≡◌, ℕ, List};
+ghost use Rattle.std.specs.Prelude.{◌≡◌, ◌⊎◌, ℕ, List};
 ghost use Rattle.sds_types.specs.declared.config.Config.{Config};
 ghost use Rattle.sds_types.specs.declared.config_refusal.ConfigRefusal.{ConfigRefusal};
 ghost use Rattle.sds_config.specs.Configuration.{IsConfiguration, IsFirstRefusal, without_place};
@@ -18,4 +18,10 @@ pub fn files_have_one_reading()
 /// nothing else of it.
 pub fn files_are_sound()
     ensures { (file : List ℕ) (config : Config) → IsConfiguration file config → IsSound config }
+{}
+
+/// The law that each file is read: it writes a configuration, or it has a first refusal.
+pub fn files_are_read()
+    ensures { (file : List ℕ) → ((config : Config) × IsConfiguration file config)
+        ⊎ ((refusal : ConfigRefusal) × IsFirstRefusal file refusal) }
 {}
