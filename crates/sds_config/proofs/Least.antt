@@ -13,7 +13,14 @@ use Rattle.toml.proofs.Views.{Entry}
 use Rattle.toml.specs.Data.{Members, no_members, member}
 use Rattle.toml.specs.View.{members_view, view}
 use Rattle.sds_config.specs.Fields.{NoneBefore, first_unlisted, is_listed, lesser}
-use Rattle.sds_config.proofs.Gave.{no_value}
+
+-- nothing is no key
+abbrev is_there : Option (List ℕ) → Bool
+is_there None = false
+is_there (Some key) = true
+
+no_value : {G : Type 0} (key : List ℕ) → Some key ≡ None → G
+no_value key is = absurd (true≢false (ap is_there is))
 
 -- ORDER
 abbrev order : List ℕ → List ℕ → Ordering

@@ -1,10 +1,9 @@
 //! Laws of the configuration file.
-ghost use Rattle.std.specs.Prelude.{◌≡◌, ◌⊎◌, ℕ, List, Some};
+ghost use Rattle.std.specs.Prelude.{◌≡◌, ℕ, List, Some};
 ghost use Rattle.sds_types.specs.declared.config.Config.{Config};
 ghost use Rattle.sds_types.specs.declared.config_refusal.ConfigRefusal.{ConfigRefusal};
 ghost use Rattle.sds_config.specs.Configuration.{IsConfiguration, IsFirstRefusal, without_place};
 ghost use Rattle.sds_config.specs.Fields.{NoneBefore, first_unlisted};
-ghost use Rattle.sds_trade.specs.rules.Sound.{IsSound};
 ghost use Rattle.toml.specs.Data.{Members};
 
 /// The law that a file has one reading: it writes at most one configuration, or has at most one first refusal, but for the
@@ -14,18 +13,6 @@ pub fn files_have_one_reading()
     ensures refusal { (file : List ℕ) (a b : ConfigRefusal) → IsFirstRefusal file a → IsFirstRefusal file b
         → without_place a ≡ without_place b }
     ensures apart { (file : List ℕ) (config : Config) (refusal : ConfigRefusal) → IsConfiguration file config → IsFirstRefusal file refusal → ⊥ }
-{}
-
-/// The law that every configuration that a file writes is sound: the rules of the trade rely on
-/// nothing else of it.
-pub fn files_are_sound()
-    ensures { (file : List ℕ) (config : Config) → IsConfiguration file config → IsSound config }
-{}
-
-/// The law that each file is read: it writes a configuration, or it has a first refusal.
-pub fn files_are_read()
-    ensures { (file : List ℕ) → ((config : Config) × IsConfiguration file config)
-        ⊎ ((refusal : ConfigRefusal) × IsFirstRefusal file refusal) }
 {}
 
 /// The law that of the keys that an entry may not have the first in byte order is answered, in

@@ -27,7 +27,7 @@ use Rattle.sds_trade.specs.sound.Tables.{HasSize, width_of}
 use Rattle.sds_config.specs.declared.columns.ColumnText.{ColumnText}
 use Rattle.sds_config.specs.ColumnTexts.{size_in_front, decimal_in_front, varchar_in_front, varbinary_in_front, kind_in_front, mark_in_front, reference_of, marked, column_text, columns_from}
 use Rattle.sds_config.specs.TableEntries.{width, widths}
-use Rattle.sds_config.proofs.Gave.{no_value, below, all_snoc}
+use Rattle.sds_configlaws.proofs.Gave.{no_value, below, all_snoc}
 
 -- COLUMNS. What a column's text says: a name, a kind of a size in its range, and no null in a key
 pub record IsWritten (column : ColumnText) : Type 0 where

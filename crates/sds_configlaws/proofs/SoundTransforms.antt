@@ -57,10 +57,10 @@ use Rattle.sds_config.specs.TransformColumns.{column_entry_of, formula_at, is_na
 use Rattle.sds_config.specs.Transforms as wanted
 use Rattle.sds_config.specs.Transforms.{adds_well, are_apart, are_events, columns_at, formed, has_keys, is_additive, is_column_sound, is_implied, is_known, is_load, is_remove, is_removed, is_sound, is_star, judged, key_stays, known_table, own_table, policies_at, suits_key, table_pair_at, transform_keys, transform_of, whole_transform}
 use Rattle.sds_config.specs.Words.{column_policy_of, delete_action_of, point_of}
-use Rattle.sds_config.proofs.Gave.{Answer, Is, gives, refuses, gave, same_value, never, no_value, below, was_allowed, name_given, all_snoc, all_mapped, pairs_snoc, no_pairs, none_passes, IsNew, new_given}
-use Rattle.sds_config.proofs.Kept.{Keeps, IsKept, items_few, list_kept, section_kept}
-use Rattle.sds_config.proofs.SoundEvents.{events_same, events_sound}
-use Rattle.sds_config.proofs.SoundRouters.{AreEnds, ends_given}
+use Rattle.sds_configlaws.proofs.Gave.{Answer, Is, gives, refuses, gave, same_value, never, no_value, below, was_allowed, name_given, all_snoc, all_mapped, pairs_snoc, no_pairs, none_passes, IsNew, new_given}
+use Rattle.sds_configlaws.proofs.Kept.{Keeps, IsKept, items_few, list_kept, section_kept}
+use Rattle.sds_configlaws.proofs.SoundEvents.{events_same, events_sound}
+use Rattle.sds_configlaws.proofs.SoundRouters.{AreEnds, ends_given}
 
 -- ENTRIES. The target is a name, and the source one or empty
 pub record IsEntry (entry : ColumnEntry) : Type 0 where

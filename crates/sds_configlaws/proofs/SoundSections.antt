@@ -21,8 +21,8 @@ use Rattle.sds_config.specs.Links.{leads, link_of}
 use Rattle.sds_config.specs.Refusals.{and_then}
 use Rattle.sds_config.specs.Sections.{section_of}
 use Rattle.sds_config.specs.Words.{action_of, algorithm_of}
-use Rattle.sds_config.proofs.Gave.{Answer, Is, gives, refuses, gave, same_value, never, all_snoc, pairs_snoc, no_pairs, none_passes, IsNew, new_given, place_given, IsWithin, number_given}
-use Rattle.sds_config.proofs.Kept.{Keeps, IsKept, section_kept}
+use Rattle.sds_configlaws.proofs.Gave.{Answer, Is, gives, refuses, gave, same_value, never, all_snoc, pairs_snoc, no_pairs, none_passes, IsNew, new_given, place_given, IsWithin, number_given}
+use Rattle.sds_configlaws.proofs.Kept.{Keeps, IsKept, section_kept}
 
 -- GROUPS
 abbrev Named : List ℕ → Type 0

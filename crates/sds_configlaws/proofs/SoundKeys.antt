@@ -13,8 +13,8 @@ use Rattle.sds_value.specs.declared.table.ColumnDef.{ColumnDef}
 use Rattle.sds_value.specs.declared.table.TableDef.{TableDef}
 use Rattle.sds_config.specs.declared.columns.ColumnText.{ColumnText}
 use Rattle.sds_config.specs.TableEntries.{column_of, has_key, key_kind, key_places}
-use Rattle.sds_config.proofs.Gave.{no_value, no_pairs, all_mapped}
-use Rattle.sds_config.proofs.SoundColumns.{IsWritten}
+use Rattle.sds_configlaws.proofs.Gave.{no_value, no_pairs, all_mapped}
+use Rattle.sds_configlaws.proofs.SoundColumns.{IsWritten}
 
 -- PLACES. Each is that of a column that allows no null, counted from the start
 abbrev pub Placed : List TableDef → List ColumnText → ℕ → ℕ → Type 0

@@ -15,8 +15,8 @@ use Rattle.sds_config.specs.Fields.{flag_at, id_at, only_keys, place_at}
 use Rattle.sds_config.specs.Sections.{section_of}
 use Rattle.sds_config.specs.TriggerRouters.{joins, trigger_router_of}
 use Rattle.sds_config.specs.Triggers.{captures, syncs_at, trigger_keys, trigger_of}
-use Rattle.sds_config.proofs.Gave.{Answer, Is, gives, refuses, gave, same_value, never, all_snoc, all_mapped, pairs_snoc, no_pairs, none_passes, IsNew, new_given, place_given}
-use Rattle.sds_config.proofs.Kept.{Keeps, IsKept, section_kept}
+use Rattle.sds_configlaws.proofs.Gave.{Answer, Is, gives, refuses, gave, same_value, never, all_snoc, all_mapped, pairs_snoc, no_pairs, none_passes, IsNew, new_given, place_given}
+use Rattle.sds_configlaws.proofs.Kept.{Keeps, IsKept, section_kept}
 
 -- TRIGGERS
 abbrev IdsApart : TriggerDef → TriggerDef → Type 0

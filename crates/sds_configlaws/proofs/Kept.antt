@@ -10,7 +10,7 @@ use Rattle.sds_types.specs.declared.config_refusal.ConfigRefusal.TheVariants.{To
 use Rattle.sds_config.specs.Fields.{entry_path, typed}
 use Rattle.sds_config.specs.Refusals.{and_then}
 use Rattle.sds_config.specs.Sections.{count, entry_at, entries_from, items_at, section_of}
-use Rattle.sds_config.proofs.Gave.{Answer, Is, gives, refuses, gave, same_value, never, not_above}
+use Rattle.sds_configlaws.proofs.Gave.{Answer, Is, gives, refuses, gave, same_value, never, not_above}
 
 -- how the entries of a section are read
 abbrev pub Reading : Type 0 → Type 0

@@ -28,10 +28,10 @@ use Rattle.sds_config.specs.ColumnTexts.{columns_from}
 use Rattle.sds_config.specs.Fields.{id_at, only_keys, place_of}
 use Rattle.sds_config.specs.Sections.{section_of}
 use Rattle.sds_config.specs.TableEntries.{are_distinct, are_sound, column_of, has_key, is_kind, key_kind, key_places, only_key_kind, parent_place, parent_of, referred_kind, refers_well, same_kind, table_key_kind, table_of, texts_at, whole_table, widths}
-use Rattle.sds_config.proofs.Gave.{Answer, Is, gives, refuses, gave, same_value, never, no_value, below, not_above, not_same, place_within, all_snoc, all_mapped, pairs_snoc, no_pairs, none_passes, IsNew, new_given}
-use Rattle.sds_config.proofs.Kept.{Keeps, IsKept, section_kept}
-use Rattle.sds_config.proofs.SoundColumns.{IsWritten, columns_written, widths_same}
-use Rattle.sds_config.proofs.SoundKeys.{Below, Placed, places_placed, places_ascend, places_few, places_some, single_kinds}
+use Rattle.sds_configlaws.proofs.Gave.{Answer, Is, gives, refuses, gave, same_value, never, no_value, below, not_above, not_same, place_within, all_snoc, all_mapped, pairs_snoc, no_pairs, none_passes, IsNew, new_given}
+use Rattle.sds_configlaws.proofs.Kept.{Keeps, IsKept, section_kept}
+use Rattle.sds_configlaws.proofs.SoundColumns.{IsWritten, columns_written, widths_same}
+use Rattle.sds_configlaws.proofs.SoundKeys.{Below, Placed, places_placed, places_ascend, places_few, places_some, single_kinds}
 
 -- COLUMNS. No name stands twice
 abbrev NamesApart : ColumnDef → ColumnDef → Type 0

@@ -32,8 +32,8 @@ use Rattle.sds_config.specs.Routers.{empty_expression, judged, judged_tests, jud
 use Rattle.sds_config.specs.Sections.{section_of}
 use Rattle.sds_config.specs.Words.{router_kind_of}
 use Rattle.sds_config.specs.declared.ends.Ends.{Ends}
-use Rattle.sds_config.proofs.Gave.{Answer, Is, gives, refuses, gave, same_value, never, all_snoc, pairs_snoc, no_pairs, IsNew, new_given, place_given}
-use Rattle.sds_config.proofs.Kept.{Keeps, IsKept, section_kept}
+use Rattle.sds_configlaws.proofs.Gave.{Answer, Is, gives, refuses, gave, same_value, never, all_snoc, pairs_snoc, no_pairs, IsNew, new_given, place_given}
+use Rattle.sds_configlaws.proofs.Kept.{Keeps, IsKept, section_kept}
 
 -- ENDS. Both groups are there
 pub record AreEnds (groups : List (List ℕ)) (ends : Ends) : Type 0 where

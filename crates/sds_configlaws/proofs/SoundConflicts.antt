@@ -28,9 +28,9 @@ use Rattle.sds_config.specs.Ends.{ends_at}
 use Rattle.sds_config.specs.Fields.{only_keys, place_at, place_of}
 use Rattle.sds_config.specs.Links.{leads}
 use Rattle.sds_config.specs.Sections.{section_of}
-use Rattle.sds_config.proofs.Gave.{Answer, Is, gives, refuses, gave, same_value, never, no_value, all_snoc, pairs_snoc, no_pairs, none_passes, place_given}
-use Rattle.sds_config.proofs.Kept.{Keeps, IsKept, section_kept}
-use Rattle.sds_config.proofs.SoundRouters.{AreEnds, ends_given}
+use Rattle.sds_configlaws.proofs.Gave.{Answer, Is, gives, refuses, gave, same_value, never, no_value, all_snoc, pairs_snoc, no_pairs, none_passes, place_given}
+use Rattle.sds_configlaws.proofs.Kept.{Keeps, IsKept, section_kept}
+use Rattle.sds_configlaws.proofs.SoundRouters.{AreEnds, ends_given}
 
 -- COLUMNS. What is among the first columns is among the columns
 taken : {X : Type 0} (P : X → Type 0) (n : ℕ) (xs : List X) (place : ℕ) → IsSomeAnd (slice_get (take n xs) place) P → IsSomeAnd (slice_get xs place) P

@@ -31,14 +31,14 @@ use Rattle.sds_config.specs.TableEntries.{table_of}
 use Rattle.sds_config.specs.Transforms.{transform_of}
 use Rattle.sds_config.specs.TriggerRouters.{trigger_router_of}
 use Rattle.sds_config.specs.Triggers.{trigger_of}
-use Rattle.sds_config.proofs.Gave.{Answer, gives, gave, same_value, all_mapped}
-use Rattle.sds_config.proofs.Kept.{IsKept}
-use Rattle.sds_config.proofs.SoundConflicts.{Conflicts, conflicts_kept}
-use Rattle.sds_config.proofs.SoundRouters.{Routers, routers_kept}
-use Rattle.sds_config.proofs.SoundSections.{channels_sound, groups_sound, links_sound}
-use Rattle.sds_config.proofs.SoundTables.{Tables, tables_kept}
-use Rattle.sds_config.proofs.SoundTransforms.{Transforms, transforms_kept}
-use Rattle.sds_config.proofs.SoundTriggers.{Pairs, Triggers, pairs_kept, triggers_kept}
+use Rattle.sds_configlaws.proofs.Gave.{Answer, gives, gave, same_value, all_mapped}
+use Rattle.sds_configlaws.proofs.Kept.{IsKept}
+use Rattle.sds_configlaws.proofs.SoundConflicts.{Conflicts, conflicts_kept}
+use Rattle.sds_configlaws.proofs.SoundRouters.{Routers, routers_kept}
+use Rattle.sds_configlaws.proofs.SoundSections.{channels_sound, groups_sound, links_sound}
+use Rattle.sds_configlaws.proofs.SoundTables.{Tables, tables_kept}
+use Rattle.sds_configlaws.proofs.SoundTransforms.{Transforms, transforms_kept}
+use Rattle.sds_configlaws.proofs.SoundTriggers.{Pairs, Triggers, pairs_kept, triggers_kept}
 
 -- a configuration of these sections
 abbrev of : List (List ℕ) → List LinkDef → List ChannelDef → List TableDef → List TriggerDef → List RouterDef → List TriggerRouterDef

@@ -14,7 +14,7 @@ use Rattle.sds_trade.proofs.ReferenceLaws.{both_left, both_right}
 use Rattle.sds_trade.specs.rules.ColumnFunctions.{has_letter}
 use Rattle.sds_trade.specs.sound.TransformColumns.{AreLetters}
 use Rattle.sds_config.specs.Transforms.{are_events, are_letters, has_event, is_star}
-use Rattle.sds_config.proofs.Gave.{all_mapped, no_pairs, none_passes}
+use Rattle.sds_configlaws.proofs.Gave.{all_mapped, no_pairs, none_passes}
 
 -- one of two tests passed
 either : {G : Type 0} (a b : Bool) → (a || b) ≡ true → (a ≡ true → G) → (b ≡ true → G) → G

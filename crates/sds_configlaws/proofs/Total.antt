@@ -11,7 +11,7 @@ use Rattle.sds_types.specs.declared.config_refusal.ConfigRefusal.{ConfigRefusal}
 use Rattle.sds_types.specs.declared.config_refusal.ConfigRefusal.TheVariants.{NotToml, TooMany}
 use Rattle.sds_config.specs.Configuration.{IsConfiguration, IsFirstRefusal, IsTree, config_of, most_bytes}
 use Rattle.sds_config.specs.Positions.{IsPosition}
-use Rattle.sds_config.proofs.Gave.{Answer, below, no_value}
+use Rattle.sds_configlaws.proofs.Gave.{Answer, below, no_value}
 
 -- what a file gives
 abbrev pub Given : List ℕ → Type 0

@@ -1,5 +1,0 @@
-use Rattle.sds_config.proofs.Total as total
-use Rattle.sds_config.proofs.laws.files_are_read.Goals as goal
-
-pub returns : goal.returns
-returns c = total.files_are_read
