@@ -1,7 +1,9 @@
 -- The fields of an entry: where each is found, what it may hold, and what is answered where it doesn't.
 -- A path is given by its bytes. At the top of the file the path of the entry is empty.
-use Rattle.std.specs.Prelude.{ℕ, ℤ, pos, negsuc, Bool, true, false, ◌&&◌, nat_le, if◌then◌else◌, List, [], ◌∷◌, ◌++◌, codes, position, Option, Some, None, Result, Ok, Err}
+use Rattle.std.specs.Prelude.{◌≡◌, ℕ, ℤ, pos, negsuc, Bool, true, false, ◌&&◌, nat_le, if◌then◌else◌, List, [], ◌∷◌, ◌++◌, codes, position, Option, Some, None, Result, Ok, Err}
+use Rattle.std.specs.Cmp.Lexicographic.{slice_cmp}
 use Rattle.std.specs.Fmt.{decimal}
+use Rattle.std.specs.Ordering.{is_lt, nat_cmp}
 use Rattle.std.specs.Str.{bytes_eq, chars}
 use Rattle.toml.specs.Data.{Data, Members, no_members, member, get_member, as_str, as_integer, as_bool}
 use Rattle.sds_value.specs.Names.{is_name_text}
@@ -85,10 +87,24 @@ abbrev pub is_listed : List (List ℕ) → List ℕ → Bool
 is_listed [] key = false
 is_listed (name ∷ names) key = if bytes_eq name key then true else is_listed names key
 
--- the first key, in byte order, that isn't listed: the members of a table stand in the byte order of their keys
+-- the lesser of a key and another, in byte order
+abbrev pub lesser : List ℕ → Option (List ℕ) → List ℕ
+lesser key None = key
+lesser key (Some other) = if is_lt (slice_cmp nat_cmp other key) then other else key
+
+-- the least key, in byte order, that isn't listed, in whatever order the members stand
 abbrev pub first_unlisted : List (List ℕ) → Members → Option (List ℕ)
 first_unlisted names no_members = None
-first_unlisted names (member key value rest) = if is_listed names key then first_unlisted names rest else Some key
+first_unlisted names (member key value rest) =
+    if is_listed names key then first_unlisted names rest
+    else Some (lesser key (first_unlisted names rest))
+
+-- no key of the entry that isn't listed comes before this one
+abbrev pub NoneBefore : List (List ℕ) → Members → List ℕ → Type 0
+NoneBefore names no_members key = Unit {0}
+NoneBefore names (member other value rest) key =
+    (is_listed names other ≡ false → is_lt (slice_cmp nat_cmp other key) ≡ false)
+    × NoneBefore names rest key
 
 -- no key but these stands in the entry
 abbrev pub only_keys : List (List ℕ) → Members → List ℕ → Result (Unit {0}) ConfigRefusal

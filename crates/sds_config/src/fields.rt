@@ -225,11 +225,11 @@ fn is_listed(names: &[&str], key: &str) -> bool
     false
 }
 
-/// The first key, in byte order, that isn't one of the names.
+/// The least key, in byte order, that isn't one of the names.
 fn first_unlisted<'a>(table: &'a Table, names: &[&str]) -> Option<&'a str>
     ensures { option_map (λ s. s.now) result ≡ wanted.first_unlisted (map (λ n. n.now) names.now) (table_view table.now) }
 {
-    for (key, _value) in table {
+    for (key, _value) in table.iter() {
         if !is_listed(names, key.as_str()) {
             return Some(key.as_str());
         }

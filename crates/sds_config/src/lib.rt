@@ -24,7 +24,7 @@ mod transforms;
 mod triggers;
 mod words;
 
-pub use laws::files_have_one_reading;
+pub use laws::{files_have_one_reading, unlisted_keys_go_by_byte_order};
 pub use read::ReadConfig;
 pub use sds_types::{
     Action, Algorithm, ChannelDef, ColumnExpression, ColumnKind, ColumnPolicy, Config,

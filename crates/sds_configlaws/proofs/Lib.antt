@@ -1,0 +1,13 @@
+pub mod Gave
+pub mod Kept
+pub mod SoundSections
+pub mod SoundTriggers
+pub mod SoundRouters
+pub mod SoundConflicts
+pub mod SoundColumns
+pub mod SoundKeys
+pub mod SoundTables
+pub mod SoundEvents
+pub mod SoundTransforms
+pub mod SoundFiles
+pub mod Total
