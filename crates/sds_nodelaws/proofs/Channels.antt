@@ -147,10 +147,6 @@ single_by place (at ∷ ats) none = by (is_at place at) refl none (single_by pla
     by true is none rest = absurd (true≢false (ap (λ l. elim l [ [] ↦ false | y ∷ ys ↦ true ]) none))
     by false is none rest = (λ here. none, rest none)
 
-tail_of : At → List At → List At
-tail_of other [] = []
-tail_of other (at ∷ ats) = ats
-
 single_one : (place : ℕ) (ats : List At) (one : At) → filter (is_at place) ats ≡ one ∷ [] → Single place ats
 single_one place [] one is = tt
 single_one place (at ∷ ats) one is = by (is_at place at) refl is (single_one place ats one)

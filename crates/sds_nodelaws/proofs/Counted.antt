@@ -19,6 +19,7 @@ use Rattle.sds_history.specs.history.Made.{batches_by, made_after, next_batches,
 use Rattle.sds_history.specs.history.Runs.{Run, captured_count, captured_in, dones_of, last_change_after, last_tx_after, mark_after, mark_by, source_of, tables_after, tx_in}
 use Rattle.sds_history.specs.history.Standings.{with_standing}
 use Rattle.sds_nodelaws.specs.Counters.{BatchesCountOn, ChangesCountOn, CountersNeverFall, IsMarked, MarkStaysWithin, batch_ids, change_ids}
+use Rattle.sds_nodelaws.proofs.Tests.{at_most}
 
 -- NUMBERS
 more : (n m : ℕ) → n ≤ n + m
@@ -32,9 +33,6 @@ one_more n m = omega arith
 
 same_most : (n : ℕ) → n ≤ n
 same_most n = omega arith
-
-at_most : (a b c : ℕ) → a ≤ b → b ≤ c → a ≤ c
-at_most a b c first second = omega (arith, first, second)
 
 -- THE MARK
 marked_by : (act : Act) (last mark : ℕ) → mark ≤ last → mark_by act last mark ≤ last

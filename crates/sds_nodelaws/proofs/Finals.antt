@@ -16,20 +16,9 @@ use Rattle.sds_history.specs.history.Made.{batches_by, made_after, next_batches}
 use Rattle.sds_history.specs.history.Runs.{Run}
 use Rattle.sds_history.specs.history.Standings.{acknowledged, acks_from, acks_in, erred_by, is_acked, is_error_of, is_ok_for, last_error, same_lane, standing_of, with_standing}
 use Rattle.sds_nodelaws.specs.Standings.{OkIsFinal}
+use Rattle.sds_nodelaws.proofs.Tests.{or_cases, or_left, or_right}
 
 -- TESTS
-or_left : (a b : Bool) → a ≡ true → (a || b) ≡ true
-or_left true b is = refl
-or_left false b is = absurd (true≢false (sym is))
-
-or_right : (a b : Bool) → b ≡ true → (a || b) ≡ true
-or_right true b is = refl
-or_right false b is = is
-
-or_cases : {G : Type 0} (a b : Bool) → (a || b) ≡ true → (a ≡ true → G) → (b ≡ true → G) → G
-or_cases true b is left right = left refl
-or_cases false b is left right = right is
-
 any_more : {X : Type 0} (p q : X → Bool) (xs : List X) → ((x : X) → p x ≡ true → q x ≡ true) → list_any p xs ≡ true → list_any q xs ≡ true
 any_more p q [] more is = is
 any_more p q (x ∷ xs) more is = or_cases (p x) (list_any p xs) is

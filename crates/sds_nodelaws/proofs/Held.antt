@@ -11,28 +11,11 @@ use Rattle.sds_types.specs.declared.row.Change.{Change}
 use Rattle.sds_trade.proofs.Lists.{all_head, all_tail, pairs_head, pairs_tail}
 use Rattle.sds_trade.specs.rules.Batches.{batch_in, is_for, lane_changes, numbered_batch}
 use Rattle.sds_trade.specs.rules.Cuts.{changes_in}
+use Rattle.sds_nodelaws.proofs.Tests.{or_cases, other_number, same_number}
 
 -- TESTS
-or_cases : {G : Type 0} (a b : Bool) → (a || b) ≡ true → (a ≡ true → G) → (b ≡ true → G) → G
-or_cases true b is left right = left refl
-or_cases false b is left right = right is
-
-or_first : (a b : Bool) → (a || b) ≡ false → a ≡ false
-or_first true b is = absurd (true≢false is)
-or_first false b is = refl
-
-or_rest : (a b : Bool) → (a || b) ≡ false → b ≡ false
-or_rest true b is = absurd (true≢false is)
-or_rest false b is = is
-
-same_number : (a b : ℕ) → (a == b) ≡ true → a ≡ b
-same_number a b is = grind (arith, nat_tests)
-
 pub equal_itself : (a : ℕ) → (a == a) ≡ true
 equal_itself a = grind (arith, nat_tests)
-
-differ : (a b : ℕ) → a ≢ b → (b == a) ≡ false
-differ a b apart = grind (arith, nat_tests)
 
 -- LISTS
 pub any_map : {X Y : Type 0} (p : X → Bool) (f : Y → X) (ys : List Y) → list_any p (map f ys) ≡ list_any (λ y. p (f y)) ys
@@ -100,7 +83,7 @@ has_id id changes = list_any (λ (change : Change). change.id == id) changes
 none_of : (id : ℕ) (changes : List Change) → All (λ (change : Change). id ≢ change.id) changes → has_id id changes ≡ false
 none_of id [] apart = refl
 none_of id (change ∷ changes) apart =
-    ap (λ b. b || has_id id changes) (differ id change.id (all_head (λ (c : Change). id ≢ c.id) change changes apart))
+    ap (λ b. b || has_id id changes) (other_number id change.id (all_head (λ (c : Change). id ≢ c.id) change changes apart))
     ∙ none_of id changes (all_tail (λ (c : Change). id ≢ c.id) change changes apart)
 
 rest_apart : (id : ℕ) (piece rest : List Change) → AllPairs Apart (piece ++ rest) → has_id id piece ≡ true → has_id id rest ≡ false
@@ -161,7 +144,7 @@ filter_none : (test : Change → Bool) (id : ℕ) (changes : List Change) → Al
     → has_id id (filter test changes) ≡ false
 filter_none test id [] apart = refl
 filter_none test id (change ∷ changes) apart =
-    none_on (test change) (differ id change.id (all_head (λ (c : Change). id ≢ c.id) change changes apart))
+    none_on (test change) (other_number id change.id (all_head (λ (c : Change). id ≢ c.id) change changes apart))
     (filter_none test id changes (all_tail (λ (c : Change). id ≢ c.id) change changes apart))
   where
     none_on : (b : Bool) → (change.id == id) ≡ false → has_id id (filter test changes) ≡ false
@@ -179,7 +162,7 @@ pub filter_one : (test : Change → Bool) (before : List Change) (change : Chang
 filter_one test [] change later apart =
     here_on test change later (test change) refl (filter_none test change.id later (pairs_head Apart change later apart))
 filter_one test (other ∷ before) change later apart =
-    other_on (test other) (differ change.id other.id (λ same. all_head (λ (c : Change). other.id ≢ c.id) change later
+    other_on (test other) (other_number change.id other.id (λ same. all_head (λ (c : Change). other.id ≢ c.id) change later
     (last_all (λ (c : Change). other.id ≢ c.id) before (change ∷ later) (pairs_head Apart other (before ++ change ∷ later) apart)) (sym same)))
     (filter_one test before change later (pairs_tail Apart other (before ++ change ∷ later) apart))
   where

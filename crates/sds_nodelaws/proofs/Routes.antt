@@ -41,6 +41,7 @@ use Rattle.sds_nodelaws.proofs.Counted.{ids_after, mark_within}
 use Rattle.sds_nodelaws.proofs.Held.{Apart, all_of, flat_same, has_id, held, held_flat, held_numbered, held_pieces, in_lane, lane_filter, mapped}
 use Rattle.sds_nodelaws.proofs.Routing.{Among, IsInOrder, out_holds, run_names}
 use Rattle.sds_nodelaws.proofs.Targets.{one_if, range_above}
+use Rattle.sds_nodelaws.proofs.Tests.{at_most, other_number}
 
 -- NUMBERS. Changes that are numbered in a row are apart, and within the last number
 above_all : (a : ℕ) (changes : List Change) (n : ℕ) → change_ids changes ≡ range_with_len (a + 1) n → All (λ (c : Change). a < c.id) changes
@@ -213,13 +214,10 @@ taken config me runs sound =
     }
 
 -- NONE. A run's batches hold no change that it didn't take
-differ : (a b : ℕ) → (a ≡ b → ⊥) → (a == b) ≡ false
-differ a b apart = grind (arith, nat_tests)
-
 none_of : (id : ℕ) (changes : List Change) → All (λ (c : Change). c.id ≢ id) changes → has_id id changes ≡ false
 none_of id [] apart = refl
 none_of id (change ∷ changes) apart =
-    ap (λ b. b || has_id id changes) (differ change.id id (all_head (λ (c : Change). c.id ≢ id) change changes apart))
+    ap (λ b. b || has_id id changes) (other_number id change.id (λ same. all_head (λ (c : Change). c.id ≢ id) change changes apart (sym same)))
     ∙ none_of id changes (all_tail (λ (c : Change). c.id ≢ id) change changes apart)
 
 abbrev no_peers : {X : Type 0} → X → List ℕ
@@ -320,9 +318,6 @@ past_each last id c within less same = absurd (omega (arith, within, less, same)
 
 before_each : (mark id c : ℕ) → id ≤ mark → mark < c → c ≢ id
 before_each mark id c within less same = absurd (omega (arith, within, less, same))
-
-at_most : (a b c : ℕ) → a ≤ b → b ≤ c → a ≤ c
-at_most a b c first second = omega (arith, first, second)
 
 none_marked : (me : Peer) → 0 ≤ 0
 none_marked me = omega arith

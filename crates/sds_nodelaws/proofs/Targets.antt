@@ -7,6 +7,7 @@ use Rattle.std.proofs.lemmas.List.Concat.{flat_map-cons}
 use Rattle.std.proofs.lemmas.List.Elements.{All-nil, All-cons}
 use Rattle.sds_trade.proofs.Lists.{all_head, all_tail, pairs_head, pairs_tail}
 use Rattle.sds_nodelaws.proofs.Held.{flat_same, mapped}
+use Rattle.sds_nodelaws.proofs.Tests.{at_most, same_number}
 
 abbrev pub one_if : Bool → ℕ → List ℕ
 one_if b place = cond b (place ∷ []) []
@@ -63,9 +64,6 @@ greater_still t s a more less = omega (arith, more, less)
 no_more : (t a : ℕ) → a ≤ t → t < a + zero → ⊥
 no_more t a most less = omega (arith, most, less)
 
-same_number : (a b : ℕ) → (a == b) ≡ true → a ≡ b
-same_number a b is = grind (arith, nat_tests)
-
 abbrev pub Finds : List ℕ → ℕ → ℕ → List ℕ
 Finds targets a n = flat_map (λ (p : ℕ). one_if (is_in targets p) p) (range_with_len a n)
 
@@ -120,9 +118,6 @@ targets_found (suc m) a (target ∷ targets) pairs least most =
     (nexts a m (target ∷ targets) most))
 
 -- THE GREATEST
-at_most : (a b c : ℕ) → a ≤ b → b ≤ c → a ≤ c
-at_most a b c first second = omega (arith, first, second)
-
 itself : (a : ℕ) → a ≤ a
 itself a = omega arith
 
