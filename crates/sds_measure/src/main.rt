@@ -8,6 +8,8 @@ mod cases;
 mod listing;
 mod measures;
 mod sample;
+#[cfg(test)]
+mod tests;
 
 use cases::differing;
 use listing::Listing;
