@@ -1,0 +1,8 @@
+//! What holds of every world: any number of nodes under one configuration, after any list of events,
+//! whatever is lost, repeated, reordered or meets a fault. Each law is the contract of a function
+//! without a body.
+#![tactic(auto)]
+
+mod laws;
+
+pub use laws::{changes_are_routed_once_everywhere, writes_count_everywhere};
