@@ -1,0 +1,5 @@
+pub mod Labels
+pub mod Places
+pub mod Having
+pub mod Judging
+pub mod Comparing

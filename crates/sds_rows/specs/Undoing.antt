@@ -1,0 +1,28 @@
+-- What the undo of a step makes of the rows after it.
+use Rattle.std.specs.Prelude.{◌≡◌, ℕ, ◌+◌, ◌<◌, ◌≤◌, List, length}
+use Rattle.std.specs.List.{insert, remove}
+use Rattle.sds_value.specs.declared.table.TableDef.{TableDef}
+use Rattle.sds_types.specs.declared.row.TableRow.{TableRow}
+use Rattle.sds_rows.specs.declared.undo.Undo.{Undo}
+use Rattle.sds_rows.specs.declared.undo.Inverse.{Inverse}
+use Rattle.sds_rows.specs.declared.undo.Inverse.TheVariants.{Remove, PutBack, Exchange}
+use Rattle.sds_trade.specs.rules.Tables.{AreTables}
+
+-- the row that was put in is taken out, and the one that was taken out is put in
+abbrev pub rows_back : Inverse → List TableRow → List TableRow
+rows_back (Remove at) rows = remove rows at
+rows_back (PutBack at old) rows = insert rows at old
+rows_back (Exchange at old_at old) rows = insert (remove rows at) old_at old
+
+-- the places are in range among so many rows
+abbrev pub IsInRange : Inverse → ℕ → Type 0
+IsInRange (Remove at) count = at < count
+IsInRange (PutBack at old) count = at ≤ count
+IsInRange (Exchange at old_at old) count = (at < count) × (old_at + 1 ≤ count)
+
+-- the undo leads from the rows after a step back to a node's rows before it
+pub record Undoes (defs : List TableDef) (undo : Undo) (after before : List TableRow)
+    : Type 0 where
+  pub within : IsInRange undo.inverse (length after)
+  pub back : rows_back undo.inverse after ≡ before
+  pub sound : AreTables defs before
