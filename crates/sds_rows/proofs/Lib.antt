@@ -3,3 +3,4 @@ pub mod Places
 pub mod Having
 pub mod Judging
 pub mod Comparing
+pub mod Keeping

@@ -6,7 +6,7 @@ use Rattle.sds_types.specs.declared.row.TableRow.{TableRow}
 use Rattle.sds_rows.specs.declared.undo.Undo.{Undo}
 use Rattle.sds_rows.specs.declared.undo.Inverse.{Inverse}
 use Rattle.sds_rows.specs.declared.undo.Inverse.TheVariants.{Remove, PutBack, Exchange}
-use Rattle.sds_trade.specs.rules.Tables.{AreTables}
+use Rattle.sds_rows.specs.Stored.{AreInOrder}
 
 -- the row that was put in is taken out, and the one that was taken out is put in
 abbrev pub rows_back : Inverse → List TableRow → List TableRow
@@ -20,9 +20,9 @@ IsInRange (Remove at) count = at < count
 IsInRange (PutBack at old) count = at ≤ count
 IsInRange (Exchange at old_at old) count = (at < count) × (old_at + 1 ≤ count)
 
--- the undo leads from the rows after a step back to a node's rows before it
+-- the undo leads from the rows after a step back to those before it
 pub record Undoes (defs : List TableDef) (undo : Undo) (after before : List TableRow)
     : Type 0 where
   pub within : IsInRange undo.inverse (length after)
   pub back : rows_back undo.inverse after ≡ before
-  pub sound : AreTables defs before
+  pub order : AreInOrder defs before

@@ -116,7 +116,11 @@ pub(crate) fn order_by_row(defs: &[TableDef], other: &TableRow, table: u32, row:
         return order;
     }
     let places = key_places(defs, table);
-    order_of_keys(places, other.row.0.inner().as_slice(), row.0.inner().as_slice())
+    order_of_keys(
+        places,
+        other.row.0.inner().as_slice(),
+        row.0.inner().as_slice(),
+    )
 }
 
 /// Whether a row of a table has a key.

@@ -132,12 +132,7 @@ fn refers_to(defs: &[TableDef], table: u32, key: &[Value], row: &TableRow) -> bo
 }
 
 /// Whether a row but the one of a table with a key refers to that key.
-pub(crate) fn others_refer(
-    defs: &[TableDef],
-    rows: &[TableRow],
-    table: u32,
-    key: &[Value],
-) -> bool
+pub(crate) fn others_refer(defs: &[TableDef], rows: &[TableRow], table: u32, key: &[Value]) -> bool
     ensures { result ≡ list_any (stand.refers_to defs.now table (record { 0 = key.now }))
         (without_row defs.now rows.now table (record { 0 = key.now })) }
 {

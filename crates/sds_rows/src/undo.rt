@@ -11,9 +11,14 @@ pub struct Undo {
 #[derive(Debug, Drop)]
 pub(crate) enum Inverse {
     /// The row at this place is taken out.
-    Remove { at: usize },
+    Remove {
+        at: usize,
+    },
     /// This row is put in at this place.
-    PutBack { at: usize, old: TableRow },
+    PutBack {
+        at: usize,
+        old: TableRow,
+    },
     /// The row at this place is taken out, and then the old one is put in at its own.
     Exchange {
         at: usize,
