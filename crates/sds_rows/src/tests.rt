@@ -108,6 +108,7 @@ fn steps_are_undone_after_each_number_of_them(rt: HostRuntime) -> Result<(), Fai
 fn no_more_rows_are_inserted_than_a_node_may_have(rt: HostRuntime) -> Result<(), Fail> {
     let alloc = rt.alloc();
     let mut tables = shop_tables(alloc)?;
+    tables.reserve(200_000)?;
     for id in 0..200_000 {
         let undo = made(alloc, &mut tables, &Act::Item(id, "Pen"))?;
         assert!(rt; undo.is_ok());
