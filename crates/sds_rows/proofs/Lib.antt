@@ -4,3 +4,4 @@ pub mod Having
 pub mod Judging
 pub mod Comparing
 pub mod Keeping
+pub mod LeadingBack

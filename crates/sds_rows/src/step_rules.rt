@@ -120,7 +120,7 @@ fn leaves_children(defs: &[TableDef], rows: &[TableRow], step: &RowStep) -> bool
 }
 
 /// Whether a step inserts a row where as many stand as a node may have.
-fn overfills(rows: &[TableRow], step: &RowStep) -> bool
+pub(crate) fn overfills(rows: &[TableRow], step: &RowStep) -> bool
     ensures { result ≡ judged.overfills rows.now step.now }
 {
     match step {

@@ -1,8 +1,11 @@
 //! The rules on steps in their order, and steps undone.
+ghost use Rattle.std.specs.Prelude.{◌≡◌, ◌+◌, ◌≤◌, length, OnOk};
+
+use crate::step_rules::overfills;
 use crate::tests_shop::{Act, dump, shop_tables, step_of};
 use crate::{Tables, Undo};
-use sds_base::NoMemory;
-use sds_types::Rule;
+use sds_base::{List, NoMemory};
+use sds_types::{Row, Rule, TableRow};
 use std::alloc::Global;
 use std::test::Fail;
 
@@ -14,6 +17,29 @@ fn made(alloc: Global, tables: &mut Tables, act: &Act) -> Result<Result<Undo, Ru
     }
     tables.reserve(1)?;
     Ok(Ok(tables.apply(step)))
+}
+
+/// Makes steps one after another and undoes them again, and tells whether the rows were, after each
+/// undo, those before its step.
+fn comes_back(alloc: Global, tables: &mut Tables, acts: &[Act]) -> Result<bool, NoMemory>
+    ensures rows { OnOk result (tables.new.rows ≡ tables.old.rows) }
+    ensures defs { tables.new.defs ≡ tables.old.defs }
+    ensures room { length tables.old.rows + tables.old.spare
+        ≤ length tables.new.rows + tables.new.spare }
+{
+    let [act, later @ ..] = acts else {
+        return Ok(true);
+    };
+    let step = step_of(alloc, act)?;
+    if tables.test(&step).is_some() {
+        return Ok(false);
+    }
+    let before = dump(alloc, tables)?;
+    tables.reserve(1)?;
+    let undo = tables.apply(step);
+    let all = comes_back(alloc, tables, later)?;
+    tables.revert(undo);
+    Ok(all && dump(alloc, tables)? == before)
 }
 
 #[test]
@@ -88,18 +114,8 @@ fn steps_are_undone_after_each_number_of_them(rt: HostRuntime) -> Result<(), Fai
     ];
     for most in 0..acts.len() + 1 {
         let mut tables = shop_tables(alloc)?;
-        let mut dumps = Vec::new(alloc);
-        let mut undos = Vec::new(alloc);
-        for act in &acts[..most] {
-            dumps.push(dump(alloc, &tables)?)?;
-            let undo = made(alloc, &mut tables, act)?;
-            assert!(rt; undo.is_ok());
-            undos.push(undo)?;
-        }
-        while let Some(Ok(undo)) = undos.pop() {
-            tables.revert(undo);
-            assert_eq!(rt; Some(dump(alloc, &tables)?), dumps.pop());
-        }
+        assert!(rt; comes_back(alloc, &mut tables, &acts[..most])?);
+        assert_eq!(rt; tables.count(), 0);
     }
     Ok(())
 }
@@ -107,26 +123,21 @@ fn steps_are_undone_after_each_number_of_them(rt: HostRuntime) -> Result<(), Fai
 #[test]
 fn no_more_rows_are_inserted_than_a_node_may_have(rt: HostRuntime) -> Result<(), Fail> {
     let alloc = rt.alloc();
-    let mut tables = shop_tables(alloc)?;
-    tables.reserve(200_000)?;
-    for id in 0..200_000 {
-        let undo = made(alloc, &mut tables, &Act::Item(id, "Pen"))?;
-        assert!(rt; undo.is_ok());
+    let mut rows = Vec::with_capacity(alloc, 200_000)?;
+    for _ in 0..199_999 {
+        rows.push(TableRow {
+            table: 0,
+            row: Row(List::new(alloc)),
+        })?;
     }
-    let cases = [
-        (Act::Item(200_000, "Pen"), Some(Rule::TableFull)),
-        // The other rules come before.
-        (Act::Item(200_000, ""), Some(Rule::NullNotAllowed)),
-        (Act::Item(7, "Pen"), Some(Rule::DuplicateKey)),
-        (Act::Sale("a", 200_000, ""), Some(Rule::MissingParent)),
-        // An update is none, and a delete makes room.
-        (Act::MoveItem(7, 200_000, "Ink"), None),
-        (Act::DropItem(5), None),
-        (Act::Item(5, "Pen"), None),
-        (Act::Item(7, "Pen"), Some(Rule::TableFull)),
-    ];
-    for (act, expected) in &cases {
-        assert_eq!(rt; made(alloc, &mut tables, act)?.err(), *expected);
-    }
+    let insert = step_of(alloc, &Act::Item(7, "Pen"))?;
+    let delete = step_of(alloc, &Act::DropItem(7))?;
+    assert!(rt; !overfills(&rows, &insert));
+    rows.push(TableRow {
+        table: 0,
+        row: Row(List::new(alloc)),
+    })?;
+    assert!(rt; overfills(&rows, &insert));
+    assert!(rt; !overfills(&rows, &delete));
     Ok(())
 }

@@ -1,4 +1,6 @@
 //! Steps that were made, with what undoes them.
+ghost use Rattle.std.specs.Prelude.{◌≡◌};
+
 use sds_types::{Row, RowStep, TableRow};
 
 /// What undoes a step of the tables.
@@ -34,4 +36,14 @@ pub struct Done {
     /// The row before an update or a delete.
     pub old: Option<Row>,
     pub undo: Undo,
+}
+
+impl Done {
+    /// What undoes the step.
+    pub fn into_undo(self) -> Undo
+        ensures { result ≡ self.undo }
+    {
+        let Done { undo, .. } = self;
+        undo
+    }
 }
