@@ -14,13 +14,14 @@ use std::test::Fail;
 fn trigger(
     alloc: Global,
     table: u32,
+    channel: u32,
     sync_on_update: bool,
     incoming: bool,
 ) -> Result<TriggerDef, NoMemory> {
     Ok(TriggerDef {
         id: Txt::copied(alloc, "trigger")?,
         source_table: table,
-        channel: table + 4,
+        channel,
         sync_on_insert: true,
         sync_on_update,
         sync_on_delete: table == 0,
@@ -48,34 +49,50 @@ fn join(trigger: u32, router: u32, enabled: bool) -> TriggerRouterDef {
     }
 }
 
+fn groups(alloc: Global) -> Result<List<Txt>, NoMemory> {
+    let mut groups = List::new(alloc);
+    for name in ["corp", "store", "bank"] {
+        groups.push(Txt::copied(alloc, name)?)?;
+    }
+    Ok(groups)
+}
+
+fn triggers(alloc: Global) -> Result<List<TriggerDef>, NoMemory> {
+    let mut triggers = List::new(alloc);
+    triggers.push(trigger(alloc, 0, 4, false, false)?)?;
+    triggers.push(trigger(alloc, 1, 5, true, true)?)?;
+    triggers.push(trigger(alloc, 2, 6, true, true)?)?;
+    Ok(triggers)
+}
+
+fn routers(alloc: Global) -> Result<List<RouterDef>, NoMemory> {
+    let mut routers = List::new(alloc);
+    routers.push(router(alloc, 0, 1)?)?;
+    routers.push(router(alloc, 1, 2)?)?;
+    Ok(routers)
+}
+
+fn joins(alloc: Global) -> Result<List<TriggerRouterDef>, NoMemory> {
+    let mut joins = List::new(alloc);
+    joins.push(join(0, 0, true))?;
+    joins.push(join(1, 1, true))?;
+    joins.push(join(2, 0, false))?;
+    Ok(joins)
+}
+
 /// Groups corp, store and bank, with a router from each of the first two to the next. The trigger on
 /// table 0 doesn't capture updates and is joined to the first router; that on table 1 doesn't capture
 /// deletes, captures incoming rows, and is joined to the second; that on table 2 is joined by a
 /// disabled entry alone.
 fn config(alloc: Global) -> Result<Config, NoMemory> {
-    let mut groups = List::new(alloc);
-    for name in ["corp", "store", "bank"] {
-        groups.push(Txt::copied(alloc, name)?)?;
-    }
-    let mut triggers = List::new(alloc);
-    triggers.push(trigger(alloc, 0, false, false)?)?;
-    triggers.push(trigger(alloc, 1, true, true)?)?;
-    triggers.push(trigger(alloc, 2, true, true)?)?;
-    let mut routers = List::new(alloc);
-    routers.push(router(alloc, 0, 1)?)?;
-    routers.push(router(alloc, 1, 2)?)?;
-    let mut trigger_routers = List::new(alloc);
-    trigger_routers.push(join(0, 0, true))?;
-    trigger_routers.push(join(1, 1, true))?;
-    trigger_routers.push(join(2, 0, false))?;
     Ok(Config {
-        groups,
+        groups: groups(alloc)?,
         links: List::new(alloc),
         channels: List::new(alloc),
         tables: List::new(alloc),
-        triggers,
-        routers,
-        trigger_routers,
+        triggers: triggers(alloc)?,
+        routers: routers(alloc)?,
+        trigger_routers: joins(alloc)?,
         transforms: List::new(alloc),
         conflicts: List::new(alloc),
     })
@@ -120,9 +137,8 @@ fn steps_are_captured_by_what_happened(rt: HostRuntime) -> Result<(), Fail> {
     Ok(())
 }
 
-#[test]
-fn a_step_that_was_made_is_captured(rt: HostRuntime) -> Result<(), Fail> {
-    let alloc = rt.alloc();
+/// The table item with a number as its key.
+fn defs(alloc: Global) -> Result<List<TableDef>, NoMemory> {
     let mut columns = List::new(alloc);
     columns.push(ColumnDef {
         name: Txt::copied(alloc, "id")?,
@@ -138,7 +154,13 @@ fn a_step_that_was_made_is_captured(rt: HostRuntime) -> Result<(), Fail> {
         columns,
         key,
     })?;
-    let mut tables = Tables::new(alloc, &defs)?;
+    Ok(defs)
+}
+
+#[test]
+fn a_step_that_was_made_is_captured(rt: HostRuntime) -> Result<(), Fail> {
+    let alloc = rt.alloc();
+    let mut tables = Tables::new(alloc, &defs(alloc)?)?;
     let mut values = List::new(alloc);
     values.push(Value::Integer(1))?;
     let step = RowStep::Insert {
@@ -154,7 +176,8 @@ fn a_step_that_was_made_is_captured(rt: HostRuntime) -> Result<(), Fail> {
         old: None,
         undo,
     };
-    assert_eq!(rt; captured(&config(alloc)?, "corp", &done, false), Some(4));
-    assert_eq!(rt; captured(&config(alloc)?, "corp", &done, true), None);
+    let config = config(alloc)?;
+    assert_eq!(rt; captured(&config, "corp", &done, false), Some(4));
+    assert_eq!(rt; captured(&config, "corp", &done, true), None);
     Ok(())
 }
