@@ -1,5 +1,5 @@
 -- The name of a group past the last one.
-use Rattle.std.proofs.Common.{◌≡◌, ℕ, ◌≤◌, Bool, false, List, [], ◌∷◌, length, None, zero, suc, refl, sym, ap, ◌∙◌, slice_get, true≢false, arith}
+use Rattle.std.proofs.Common.{◌≡◌, ℕ, ◌≤◌, Bool, List, [], ◌∷◌, length, zero, suc, refl, sym, ap, ◌∙◌, arith}
 use Rattle.std.specs.Str.{bytes_eq, chars, encode_utf8_all}
 use Rattle.std.proofs.lemmas.Str.{chars-nil}
 use Rattle.sds_base.proofs.Texts.{same_text}

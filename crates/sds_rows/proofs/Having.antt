@@ -1,5 +1,5 @@
 -- Which keys rows have after one of them is taken out, or one is put in.
-use Rattle.std.proofs.Common.{◌≡◌, ℕ, Bool, true, false, not, ◌&&◌, ◌||◌, ◌==◌, List, ◌∷◌, ◌++◌, refl, sym, ap, subst, ◌∙◌, true≢false, filter, Ordering, Less, Equal, Greater, is_eq, is_lt}
+use Rattle.std.proofs.Common.{◌≡◌, ℕ, Bool, true, false, not, ◌&&◌, ◌||◌, ◌==◌, List, ◌∷◌, refl, sym, ap, ◌∙◌, filter, Ordering, Less, Equal, Greater, is_eq, is_lt}
 use Rattle.std.specs.List.{list_any}
 use Rattle.std.specs.Ordering.{ordering_reverse}
 use Rattle.std.proofs.lemmas.Bool.{eqb-true}
@@ -13,7 +13,7 @@ use Rattle.sds_trade.specs.rules.Steps.{with_row, without_row}
 use Rattle.sds_trade.specs.rules.Tables.{has_row, is_at, key_of, row_order, same_key}
 use Rattle.sds_trade.proofs.ReferenceLaws.{both_left, both_right}
 use Rattle.sds_rows.specs.Searches.{place_order}
-use Rattle.sds_rows.proofs.Labels.{Label, at_is, eqb_itself, equal_is, label_of, label_order, label_total, same_itself, same_one}
+use Rattle.sds_rows.proofs.Labels.{Label, at_is, equal_is, label_of, label_order, label_total, same_one}
 
 -- WITHOUT A ROW
 moved_on : (defs : List TableDef) (parent table : ℕ) (key old : Key) (row : TableRow) (b : Bool) → (parent == table) ≡ b

@@ -1,5 +1,5 @@
 -- After a step that fits and breaks no rule the rows are a node's tables again.
-use Rattle.std.proofs.Common.{◌≡◌, ℕ, suc, ◌+◌, ◌≤◌, ◌<◌, ◌++◌, take, drop, nat_le, subst, Bool, true, false, not, ◌&&◌, ◌||◌, IsTrue, List, [], ◌∷◌, length, refl, sym, ap, ◌∙◌, arith, true≢false, All, filter, get_or, None, is_lt}
+use Rattle.std.proofs.Common.{◌≡◌, ℕ, suc, ◌+◌, ◌≤◌, ◌<◌, ◌++◌, take, drop, nat_le, subst, Bool, true, false, not, ◌&&◌, ◌||◌, List, [], ◌∷◌, length, refl, sym, ap, ◌∙◌, arith, true≢false, All, filter, get_or, None, is_lt}
 use Rattle.std.specs.List.{insert, list_any, remove, zip}
 use Rattle.std.proofs.lemmas.Bool.Decides.{nat_tests}
 use Rattle.std.proofs.lemmas.List.{length-take, take-append-drop}
@@ -15,11 +15,11 @@ use Rattle.sds_types.specs.declared.row.Key.{Key}
 use Rattle.sds_types.specs.declared.row.RowStep.{RowStep}
 use Rattle.sds_types.specs.declared.row.RowStep.TheVariants.{Insert, Update, Delete}
 use Rattle.sds_types.specs.declared.row.TableRow.{TableRow}
-use Rattle.sds_trade.specs.rules.Fitting.{FitsRow, FitsStep, Suits}
+use Rattle.sds_trade.specs.rules.Fitting.{FitsRow, FitsStep}
 use Rattle.sds_trade.specs.rules.Places.{columns_at}
 use Rattle.sds_trade.specs.rules.StepRules.{broken_rule, has_null, step_breaks, step_rules}
 use Rattle.sds_trade.specs.rules.Steps.{rows_after, with_row, without_row}
-use Rattle.sds_trade.specs.rules.Tables.{AreTables, Ascend, IsRowOf, is_at, is_null, may_hold, row_order}
+use Rattle.sds_trade.specs.rules.Tables.{AreTables, Ascend, IsRowOf, is_at, is_null, row_order}
 use Rattle.sds_rows.specs.Stored.{AreInOrder}
 use Rattle.sds_rows.specs.Undoing.{Undoes}
 use Rattle.sds_rows.specs.declared.undo.Inverse.TheVariants.{Remove, Exchange}
