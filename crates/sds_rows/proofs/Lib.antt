@@ -1,0 +1,7 @@
+pub mod Labels
+pub mod Places
+pub mod Having
+pub mod Judging
+pub mod Comparing
+pub mod Keeping
+pub mod LeadingBack

@@ -1,0 +1,18 @@
+//! A node's tables: their rows in one order, the rules on steps, and steps with their undo.
+#![tactic(auto)]
+
+mod keys;
+mod laws;
+mod references;
+mod search;
+mod step_rules;
+mod tables;
+#[cfg(test)]
+mod tests;
+#[cfg(test)]
+mod tests_shop;
+mod undo;
+
+pub use laws::steps_keep_tables;
+pub use tables::Tables;
+pub use undo::{Done, Undo};
