@@ -2,6 +2,12 @@
 #![tactic(auto)]
 
 mod cutting;
+mod lanes;
+mod making;
+mod order;
+#[cfg(test)]
+mod tests;
 
 pub use cutting::cut;
-pub use sds_types::{Algorithm, Cut};
+pub use making::run;
+pub use sds_types::{Algorithm, Cut, NewBatch};
