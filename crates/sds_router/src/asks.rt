@@ -79,7 +79,8 @@ fn question_of(test: &ColumnTest, text: Option<Txt>) -> Question
 
 /// Whether a text of the node is this one. Null is no text.
 fn ask_about(about: PeerText, text: Option<Txt>, differs: bool) -> Question
-    ensures { (peer : Peer) → is_answered peer result ≡ is_settled (is_text text (text_of_peer peer about)) differs }
+    ensures { (peer : Peer) → is_answered peer result
+        ≡ is_settled (is_text text (text_of_peer peer about)) differs }
 {
     match text {
         Some(text) => Question::Asks(Ask {

@@ -188,7 +188,8 @@ fn route_of<T: StandingRows>(
 
 /// Whether the trigger of a trigger-router stands on the table of a change.
 fn is_of_trigger(config: &Config, change: &Change, join: &TriggerRouterDef) -> bool
-    ensures { result ≡ option_map_or (is_on change.now) (slice_get config.now.triggers join.now.trigger) false }
+    ensures { result ≡ option_map_or (is_on change.now)
+        (slice_get config.now.triggers join.now.trigger) false }
 {
     match config.triggers.inner().get(join.trigger as usize) {
         Some(trigger) => trigger.source_table == change.table,

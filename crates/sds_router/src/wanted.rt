@@ -115,8 +115,9 @@ fn wanted_by(
 ) -> Result<Option<Vec<Wanted>>, NoMemory>
     requires new { IfSome change.now.new (FitsRow defs.now change.now.table) }
     requires old { IfSome change.now.old (FitsRow defs.now change.now.table) }
-    ensures { IfOk result (λ wanted. (row : TableRow) → columns_at defs.now row.table ≡ columns.now →
-        option_map_or (λ all. list_all (has_wanted columns.now row.row) all.items) wanted false
+    ensures { IfOk result (λ wanted. (row : TableRow)
+        → columns_at defs.now row.table ≡ columns.now
+        → option_map_or (λ all. list_all (has_wanted columns.now row.row) all.items) wanted false
         ≡ list_all (meets defs.now change.now row) conditions.now) }
 {
     let mut wanted = Vec::new(alloc);
