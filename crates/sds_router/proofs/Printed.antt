@@ -4,14 +4,13 @@ use Rattle.std.proofs.lemmas.Bool.Decides.{nat_tests}
 use Rattle.std.proofs.lemmas.Fmt.{IsAscii-signed}
 use Rattle.std.proofs.lemmas.List.{take-append-drop}
 use Rattle.std.proofs.lemmas.Str.{IsAscii-append, IsUtf8-from_ascii}
-use Rattle.std.specs.Prelude.{ℤ, if◌then◌else◌}
+use Rattle.std.specs.Prelude.{if◌then◌else◌}
 use Rattle.std.specs.Char.{is_ascii_digit}
 use Rattle.std.specs.Fmt.{signed_decimal}
 use Rattle.std.specs.List.{list_all}
 use Rattle.std.specs.Str.{IsAscii, IsUtf8, all_scalars}
 use Rattle.base64.proofs.EngineFacts.{IsAscii-encode_of}
 use Rattle.base64.specs.Engines.{standard}
-use Rattle.base64.specs.GeneralPurpose.{encode_of}
 use Rattle.sds_value.specs.declared.kind.Binary.TheVariants.{Base64}
 use Rattle.sds_value.specs.declared.kind.Kind.{Kind}
 use Rattle.sds_value.specs.declared.kind.Kind.TheVariants as Kinds
@@ -22,8 +21,8 @@ use Rattle.sds_value.specs.declared.refusal.ValueRefusal.TheVariants.{BadText}
 use Rattle.sds_value.specs.Binaries.{coded_text}
 use Rattle.sds_value.specs.Decimals.{decimal_text, is_decimal_text}
 use Rattle.sds_value.specs.Digits.{is_digit_text}
-use Rattle.sds_value.specs.Stamps.{begins_like, has_stamp_form, is_date, is_like, is_stamp_text, is_subsecond, is_time, stamp_text, year_in, month_in, day_in, hour_in, minute_in, second_in, day_value, nano_value}
-use Rattle.sds_value.specs.Values.{decimal_of, fits, printed, stamp_of}
+use Rattle.sds_value.specs.Stamps.{begins_like, has_stamp_form, is_date, is_like, is_stamp_text, is_subsecond, is_time, stamp_text, year_in, month_in, day_in, hour_in, minute_in, second_in}
+use Rattle.sds_value.specs.Values.{fits, printed, stamp_of}
 use Rattle.sds_value.proofs.Bytes.{base64_text}
 use Rattle.sds_value.proofs.Characters.{all_small, digit_small, left_true, right_true}
 use Rattle.sds_value.proofs.Integers.{range_mag}

@@ -1,11 +1,10 @@
 -- Rows that fit their columns, and whom the rows of a table name.
-use Rattle.std.proofs.Common.{◌≡◌, ℕ, Bool, true, false, not, ◌&&◌, ◌||◌, ◌==◌, cond, List, [], ◌∷◌, length, get_or, refl, sym, subst, ap, ◌∙◌, arith, map, None, Some, Option}
+use Rattle.std.proofs.Common.{◌≡◌, ℕ, Bool, true, false, not, ◌&&◌, ◌||◌, ◌==◌, cond, List, [], ◌∷◌, get_or, refl, sym, subst, ap, ◌∙◌, map, None, Some, Option}
 use Rattle.std.proofs.lemmas.Bool.{eqb-true}
 use Rattle.std.proofs.lemmas.List.Elements.{All-nil, All-cons}
 use Rattle.std.specs.Bool.{IsTrue}
 use Rattle.std.specs.Borrow.{Bor}
 use Rattle.std.specs.List.{All, filter, list_all, list_any, zip}
-use Rattle.std.specs.Option.{option_map_or}
 use Rattle.std.specs.Prelude.{slice_get}
 use Rattle.sds_value.specs.declared.kind.Value.{Value}
 use Rattle.sds_value.specs.declared.row.Peer.{Peer}
@@ -22,7 +21,7 @@ use Rattle.sds_trade.specs.rules.Fitting.{FitColumns, Suits}
 use Rattle.sds_trade.specs.rules.Places.{column_place, columns_at, table_place}
 use Rattle.sds_trade.specs.rules.RoutedValues.{are_one_text, current_text, is_text, text_at, text_in}
 use Rattle.sds_trade.specs.rules.Routers.{chooses, compared_text, finds, is_chosen, is_found, meets, node_text}
-use Rattle.sds_trade.specs.rules.Tables.{IsRowOf, is_null, may_hold}
+use Rattle.sds_trade.specs.rules.Tables.{IsRowOf, is_null}
 use Rattle.sds_router.specs.Asks.{has_wanted, row_names}
 use Rattle.sds_router.specs.Standing.{AreRowsOf, rows_of}
 use Rattle.sds_router.specs.declared.wanted.Wanted.{Wanted}
