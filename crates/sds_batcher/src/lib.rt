@@ -1,0 +1,13 @@
+//! Batches: where a lane's changes are cut, and which batches a routing run makes.
+#![tactic(auto)]
+
+mod cutting;
+mod lanes;
+mod making;
+mod order;
+#[cfg(test)]
+mod tests;
+
+pub use cutting::cut;
+pub use making::run;
+pub use sds_types::{Algorithm, Cut, NewBatch};
