@@ -1,3 +1,4 @@
 pub mod Pairs
 pub mod Looking
 pub mod Fitting
+pub mod Keys

@@ -8,8 +8,8 @@ use sds_base::List;
 use sds_types::{Config, ConflictDef, DetectType, LoadRow, Row, Verdict};
 use sds_value::{Event, Value};
 
-/// Whether a row of a batch conflicts with its target row: of an insert the row of its new key, else
-/// that of its old key. An insert conflicts where that stands, an update or a delete where it
+/// Whether a row of a batch conflicts with its target row: of an insert the row of its new key,
+/// else that of its old key. An insert conflicts where that stands, an update or a delete where it
 /// doesn't, and otherwise as the setting at this place says; without a setting the key decides. The
 /// old value that a detection compares has to be given (the SymmetricDS guide's chapter on
 /// conflicts; what is said of missing old values and of deletes is symds' own).
@@ -46,7 +46,8 @@ fn yes_if(conflict: bool) -> Verdict
 
 /// The verdict on an update or a delete.
 fn verdict_at(setting: Option<&ConflictDef>, row: &LoadRow, target: Option<&Row>) -> Verdict
-    ensures { result ≡ seen.verdict_at (option_copied setting.entry) row.now (option_copied target.entry) }
+    ensures { result ≡ seen.verdict_at (option_copied setting.entry) row.now
+        (option_copied target.entry) }
 {
     match (setting, target) {
         (_, None) => Verdict::Yes,

@@ -1,5 +1,5 @@
-//! Conflicts of a batch's rows with the rows that stand: whether there is one, and what is done with
-//! the row.
+//! Conflicts of a batch's rows with the rows that stand: whether there is one, and what is done
+//! with the row.
 #![tactic(auto)]
 
 mod detection;

@@ -1,5 +1,6 @@
 //! What is to be done with a row of a batch where certain rows stand.
-ghost use Rattle.std.specs.Prelude.{◌≡◌, IfOk, option_and_then, option_copied, option_map, slice_get};
+ghost use Rattle.std.specs.Prelude.{◌≡◌, IfOk, slice_get};
+ghost use Rattle.std.specs.Prelude.{option_and_then, option_copied, option_map};
 ghost use Rattle.sds_trade.specs.rules.Resolutions as resolved;
 ghost use Rattle.sds_trade.specs.rules.Conflicts.{target_row};
 ghost use Rattle.sds_conflict.specs.Found.{or_null};
@@ -22,10 +23,10 @@ use std::cmp::Ordering;
 /// First an addend without a value breaks `OldMissing`, and so does an old value that the detection
 /// needs. A conflict is resolved as the setting says, without one by falling back: `Manual` breaks
 /// `ManualConflict`; where the newer wins and the named column isn't given, `OldMissing` is broken.
-/// A row that is applied breaks `SumOutOfRange` where a sum has no room in 64 bits with a sign. Else
-/// it makes the row stand: an insert whose key stands updates, an update goes to the row of its old
-/// key, else to that of its new key, else it inserts, and a delete of a row that doesn't stand is
-/// skipped (the SymmetricDS guide's chapter on conflicts; the order of the rules is symds' own).
+/// A row that is applied breaks `SumOutOfRange` where a sum has no room in 64 bits with a sign.
+/// Else it makes the row stand: an insert whose key stands updates, an update goes to the row of its
+/// old key, else to that of its new key, else it inserts, and a delete of a row that doesn't stand
+/// is skipped (the SymmetricDS guide's chapter on conflicts; the order of the rules is symds' own).
 pub fn resolve<T: KeyedRows>(
     alloc: Global,
     config: &Config,

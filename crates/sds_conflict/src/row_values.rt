@@ -38,7 +38,8 @@ pub(crate) fn key_places(defs: &[TableDef], table: u32) -> &[u32]
 
 /// The order of two values that are looked up, null where there is none.
 pub(crate) fn order_of(a: Option<&Value>, b: Option<&Value>) -> Ordering
-    ensures { result ≡ value_order (or_null (option_copied a.entry)) (or_null (option_copied b.entry)) }
+    ensures { result ≡ value_order (or_null (option_copied a.entry))
+        (or_null (option_copied b.entry)) }
 {
     let null = Value::Null;
     match (a, b) {
@@ -51,7 +52,8 @@ pub(crate) fn order_of(a: Option<&Value>, b: Option<&Value>) -> Ordering
 
 /// Whether two values are one.
 pub(crate) fn same_value(a: Option<&Value>, b: Option<&Value>) -> bool
-    ensures { result ≡ tables.same_value (or_null (option_copied a.entry)) (or_null (option_copied b.entry)) }
+    ensures { result ≡ tables.same_value (or_null (option_copied a.entry))
+        (or_null (option_copied b.entry)) }
 {
     order_of(a, b) == Ordering::Equal
 }
@@ -144,7 +146,8 @@ fn put_value(
     column: &ColumnDef,
     kept: &Value,
 ) -> Result<Value, NoMemory>
-    requires { put.is_added row.now place ≡ true → IsTrue (is_in_range (put.sum_at row.now place kept.now)) }
+    requires { put.is_added row.now place ≡ true
+        → IsTrue (is_in_range (put.sum_at row.now place kept.now)) }
     ensures { IfOk result (λ made. made ≡ put.put_value row.now (place, column.now) kept.now) }
 {
     if gives(row, place) {
@@ -158,7 +161,8 @@ fn put_value(
 
 /// Whether the sum on the value that stands at a column has 64 bits with a sign.
 fn sum_fits(row: &LoadRow, column: usize, kept: Option<&Value>) -> bool
-    ensures { result ≡ is_in_range (put.sum_at row.now column (or_null (option_copied kept.entry))) }
+    ensures { result ≡ is_in_range
+        (put.sum_at row.now column (or_null (option_copied kept.entry))) }
 {
     match kept {
         None => sum_at(row, column, &Value::Null).is_some(),

@@ -72,7 +72,8 @@ fn sum_of(units: i64, addition: i128) -> Option<i64>
 
 /// The value at a column with what the row adds to it, where that has 64 bits with a sign.
 pub(crate) fn sum_at(row: &LoadRow, column: usize, kept: &Value) -> Option<i64>
-    ensures { SomeIff result (IsTrue (is_in_range (put.sum_at row.now column kept.now))) (put.sum_at row.now column kept.now) }
+    ensures { SomeIff result (IsTrue (is_in_range (put.sum_at row.now column kept.now)))
+        (put.sum_at row.now column kept.now) }
 {
     sum_of(units_of(kept), addition_to(row, column))
 }

@@ -24,8 +24,8 @@ enum Says {
     Time(u64),
 }
 
-/// A row of a batch: its key, what it says of the four columns, its old values where they are given,
-/// and what it adds to the count.
+/// A row of a batch: its key, what it says of the four columns, its old values where they are
+/// given, and what it adds to the count.
 #[derive(Clone, Copy, Debug)]
 struct Given {
     event: Event,

@@ -1,5 +1,8 @@
 //! Rows that stand in a plain list, for the tests.
-ghost use Rattle.std.specs.Prelude.{◌≡◌};
+ghost use Rattle.std.specs.Prelude.{◌≡◌, map};
+ghost use Rattle.std.specs.Cmp.Lexicographic.{slice_cmp};
+ghost use Rattle.std.specs.Ordering.{is_eq};
+ghost use Rattle.sds_value.specs.Values.{value_order};
 ghost use Rattle.sds_trade.specs.rules.Tables as tables;
 
 use crate::KeyedRows;
@@ -44,14 +47,17 @@ fn is_at(defs: &[TableDef], table: u32, key: &Key, row: &TableRow) -> bool
 }
 
 /// Whether the values at these places are those of a key.
-fn has_key(places: &[u32], values: &[Value], key: &[Value]) -> bool {
-    if places.len() != key.len() {
-        return false;
-    }
-    for (at, value) in key.iter().enumerate() {
-        if !same_value(value_at(values, places[at] as usize), Some(value)) {
-            return false;
+#[tactic(auto, using(crate::proofs::Keys::same_then))]
+fn has_key(places: &[u32], values: &[Value], key: &[Value]) -> bool
+    ensures { result ≡ is_eq (slice_cmp value_order (map (tables.value_at values.now) places.now)
+        key.now) }
+{
+    match (places, key) {
+        ([], []) => true,
+        ([place, places @ ..], [value, key @ ..]) => {
+            same_value(value_at(values, *place as usize), Some(value))
+                && has_key(places, values, key)
         }
+        _ => false,
     }
-    true
 }
