@@ -58,6 +58,7 @@ fn has_key(places: &[u32], values: &[Value], key: &[Value]) -> bool
             same_value(value_at(values, *place as usize), Some(value))
                 && has_key(places, values, key)
         }
-        _ => false,
+        ([], [_value, _key @ ..]) => false,
+        ([_place, _places @ ..], []) => false,
     }
 }
