@@ -1,0 +1,4 @@
+pub mod Pairs
+pub mod Looking
+pub mod Fitting
+pub mod Keys

@@ -1,0 +1,2 @@
+-- The words that the contracts of conflicts share.
+pub mod Found
