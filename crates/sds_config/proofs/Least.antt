@@ -118,9 +118,10 @@ rest_on one later false none = no_value (lesser one later) none
 
 all_listed : (names : List (List ℕ)) (entry : Members) (key : List ℕ) → first_unlisted names entry ≡ None → NoneBefore names entry key
 all_listed names no_members key none = tt
-all_listed names (member one value rest) key none =
-    (all_on names one (first_unlisted names rest) key (is_listed names one) refl none,
-    all_listed names rest key (rest_on one (first_unlisted names rest) (is_listed names one) none))
+all_listed names (member one value rest) key none = (
+  all_on names one (first_unlisted names rest) key (is_listed names one) refl none,
+  all_listed names rest key (rest_on one (first_unlisted names rest) (is_listed names one) none),
+)
 
 before_itself : (key : List ℕ) → is_lt (order key key) ≡ false
 before_itself key = not_itself (order key key) (nat_list_cmp_total.antisymm key key)
@@ -145,7 +146,7 @@ least_on : (names : List (List ℕ)) (one key : List ℕ) (rest : Members) (b : 
 least_on names one key rest true listed more is = (λ isnt. absurd (true≢false (sym listed ∙ isnt)), more key is)
 least_on names one key rest false listed more is =
     let both : (is_lt (order one (lesser one (first_unlisted names rest))) ≡ false) × NoneBefore names rest (lesser one (first_unlisted names rest)) =
-        here_on names one rest (first_unlisted names rest) refl more in
+    here_on names one rest (first_unlisted names rest) refl more in
     subst (λ k. (is_listed names one ≡ false → is_lt (order one k) ≡ false) × NoneBefore names rest k)
     (ap (λ o. elim o [ None ↦ key | Some k ↦ k ]) is) (λ isnt. both.0, both.1)
 
@@ -174,6 +175,8 @@ pub passed_over : (names : List (List ℕ)) (e : Entry) (es left all : List Entr
 unfolding IsStrictlySortedBy
 passed_over names e es left all asked is sorted same listed ask =
     let ascend : IsStrictlySortedBy string_cmp (keys_of (e ∷ es)) = subst (λ l. IsStrictlySortedBy string_cmp (keys_of l)) is sorted in
-    let here : is_listed names (string_bytes e.0) ≡ true = subst (λ k. is_listed names k ≡ true) ask listed in
-    (sym (ap (λ b. cond b (first_unlisted names (members_view es)) (Some (lesser (string_bytes e.0) (first_unlisted names (members_view es))))) here)
-    ∙ (ap (λ l. first_unlisted names (members_view l)) (sym is) ∙ same), ascend.1)
+    let here : is_listed names (string_bytes e.0) ≡ true = subst (λ k. is_listed names k ≡ true) ask listed in (
+      sym (ap (λ b. cond b (first_unlisted names (members_view es)) (Some (lesser (string_bytes e.0) (first_unlisted names (members_view es))))) here)
+          ∙ (ap (λ l. first_unlisted names (members_view l)) (sym is) ∙ same),
+      ascend.1,
+    )

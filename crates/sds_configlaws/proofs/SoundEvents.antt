@@ -42,7 +42,7 @@ letters_ascii : (letters : List ℕ) → are_letters letters ≡ true → IsAsci
 letters_ascii [] is = IsAscii-nil
 letters_ascii (letter ∷ letters) is =
     let rest : (not (has_event letters letter) && are_letters letters) ≡ true =
-        both_right (has_event (codes "IUD") letter) (not (has_event letters letter) && are_letters letters) is in
+    both_right (has_event (codes "IUD") letter) (not (has_event letters letter) && are_letters letters) is in
     ascii_cons letter letters
     (letter_small letter (both_left (has_event (codes "IUD") letter) (not (has_event letters letter) && are_letters letters) is))
     (letters_ascii letters (both_right (not (has_event letters letter)) (are_letters letters) rest))
@@ -71,7 +71,7 @@ letters_known : (letters : List ℕ) → are_letters letters ≡ true → All Kn
 letters_known [] is = All-nil Known
 letters_known (letter ∷ letters) is =
     let rest : (not (has_event letters letter) && are_letters letters) ≡ true =
-        both_right (has_event (codes "IUD") letter) (not (has_event letters letter) && are_letters letters) is in
+    both_right (has_event (codes "IUD") letter) (not (has_event letters letter) && are_letters letters) is in
     All-cons Known letter letters (both_left (has_event (codes "IUD") letter) (not (has_event letters letter) && are_letters letters) is)
     (letters_known letters (both_right (not (has_event letters letter)) (are_letters letters) rest))
 
@@ -86,7 +86,7 @@ letters_apart : (letters : List ℕ) → are_letters letters ≡ true → AllPai
 letters_apart [] is = no_pairs Apart
 letters_apart (letter ∷ letters) is =
     let rest : (not (has_event letters letter) && are_letters letters) ≡ true =
-        both_right (has_event (codes "IUD") letter) (not (has_event letters letter) && are_letters letters) is in
+    both_right (has_event (codes "IUD") letter) (not (has_event letters letter) && are_letters letters) is in
     AllPairs-cons Apart letter letters
     (all_mapped (λ other. (other == letter) ≡ false) (Apart letter) letters (λ other isnt. other_letter letter other isnt)
     (none_passes (λ other. other == letter) letters

@@ -95,7 +95,7 @@ pub links_sound : (config : Config) (file : Members) (links : List LinkDef) → 
     → AreLinks config.groups links
 links_sound config file links is =
     let kept : IsKept (Links config.groups) 64 links =
-        section_kept config link_of (Links config.groups) (links_keep config) 64 (codes "link") file links (no_links config.groups) is in
+    section_kept config link_of (Links config.groups) (links_keep config) 64 (codes "link") file links (no_links config.groups) is in
     record { few = kept.few; source = kept.what.source; target = kept.what.target; apart = kept.what.apart }
 
 -- CHANNELS

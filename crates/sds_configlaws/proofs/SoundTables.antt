@@ -294,9 +294,9 @@ few_on : (earlier : List TableDef) (id : List ℕ) (refusal : ConfigRefusal) (co
 few_on earlier id refusal columns new true are named sound written many is = never _ new is
 few_on earlier id refusal columns new false are named sound written few is =
     let rest : (nat_le (widths columns) 16000 && (are_distinct columns && list_all (refers_well earlier id columns) columns)) ≡ true =
-        both_right (has_key columns) (nat_le (widths columns) 16000 && (are_distinct columns && list_all (refers_well earlier id columns) columns)) sound in
+    both_right (has_key columns) (nat_le (widths columns) 16000 && (are_distinct columns && list_all (refers_well earlier id columns) columns)) sound in
     let last : (are_distinct columns && list_all (refers_well earlier id columns) columns) ≡ true =
-        both_right (nat_le (widths columns) 16000) (are_distinct columns && list_all (refers_well earlier id columns) columns) rest in
+    both_right (nat_le (widths columns) 16000) (are_distinct columns && list_all (refers_well earlier id columns) columns) rest in
     subst (λ n. Tables (earlier ++ n ∷ [])) (same_value (made_table earlier id columns) new is)
     (table_more earlier id columns are named (record {
       key = both_left (has_key columns) (nat_le (widths columns) 16000 && (are_distinct columns && list_all (refers_well earlier id columns) columns)) sound;

@@ -464,6 +464,7 @@ apart_from column (other ∷ columns) first are none =
     or_first : (a b : Bool) → (a || b) ≡ false → a ≡ false
     or_first true b is = absurd (true≢false is)
     or_first false b is = refl
+
     or_rest : (a b : Bool) → (a || b) ≡ false → b ≡ false
     or_rest true b is = absurd (true≢false is)
     or_rest false b is = is
@@ -506,21 +507,21 @@ whole_by : (point : Point) (policy : ColumnPolicy) (def : TableDef) (columns : L
 whole_by point policy def columns kept parsed known is =
     let entries : List ColumnEntry = map entry_of columns in
     let rest : (nat_le (count_by (λ (entry : ColumnEntry). entry.pk) (map entry_of columns)) 32
-        && (has_keys point policy def (map entry_of columns) && are_apart (map entry_of columns))) ≡ true =
-        both_right (list_all (is_column_sound point policy def) (map entry_of columns))
-        (nat_le (count_by (λ (entry : ColumnEntry). entry.pk) (map entry_of columns)) 32
-        && (has_keys point policy def (map entry_of columns) && are_apart (map entry_of columns))) is in
+    && (has_keys point policy def (map entry_of columns) && are_apart (map entry_of columns))) ≡ true =
+    both_right (list_all (is_column_sound point policy def) (map entry_of columns))
+    (nat_le (count_by (λ (entry : ColumnEntry). entry.pk) (map entry_of columns)) 32
+    && (has_keys point policy def (map entry_of columns) && are_apart (map entry_of columns))) is in
     let last : (has_keys point policy def (map entry_of columns) && are_apart (map entry_of columns)) ≡ true =
-        both_right (nat_le (count_by (λ (entry : ColumnEntry). entry.pk) (map entry_of columns)) 32)
-        (has_keys point policy def (map entry_of columns) && are_apart (map entry_of columns)) rest in
+    both_right (nat_le (count_by (λ (entry : ColumnEntry). entry.pk) (map entry_of columns)) 32)
+    (has_keys point policy def (map entry_of columns) && are_apart (map entry_of columns)) rest in
     let each : All (IsSoundEntry point policy def) columns =
-        all_mapped (λ c. is_column_sound point policy def (entry_of c) ≡ true) (IsSoundEntry point policy def) columns
-        (λ c s. sound_entry point policy def c s)
-        (unmapped (λ e. is_column_sound point policy def e ≡ true) entry_of columns
-        (AllPass-from_list_all (is_column_sound point policy def) (map entry_of columns)
-        (both_left (list_all (is_column_sound point policy def) (map entry_of columns))
-        (nat_le (count_by (λ (entry : ColumnEntry). entry.pk) (map entry_of columns)) 32
-        && (has_keys point policy def (map entry_of columns) && are_apart (map entry_of columns))) is))) in
+    all_mapped (λ c. is_column_sound point policy def (entry_of c) ≡ true) (IsSoundEntry point policy def) columns
+    (λ c s. sound_entry point policy def c s)
+    (unmapped (λ e. is_column_sound point policy def e ≡ true) entry_of columns
+    (AllPass-from_list_all (is_column_sound point policy def) (map entry_of columns)
+    (both_left (list_all (is_column_sound point policy def) (map entry_of columns))
+    (nat_le (count_by (λ (entry : ColumnEntry). entry.pk) (map entry_of columns)) 32
+    && (has_keys point policy def (map entry_of columns) && are_apart (map entry_of columns))) is))) in
     record {
       each = each_sound point policy def columns (unmapped IsEntry entry_of columns kept.what) parsed
           (unmapped (λ e. is_known point def e ≡ true) entry_of columns (AllPass-from_list_all (is_known point def) (map entry_of columns) known)) each;
