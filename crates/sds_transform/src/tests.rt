@@ -11,25 +11,31 @@ const INSERT: Given = Given {
     event: Event::Insert,
     key: "1",
     new: [Some("1"), Some("abcdef"), None],
-    old: None,
+    old: [None, None, None],
+    has_old: false,
 };
 
 const UPDATE: Given = Given {
     event: Event::Update,
     key: "1",
     new: [Some("2"), Some("abcdef"), Some("x")],
-    old: Some([Some("1"), Some("zyx"), None]),
+    old: [Some("1"), Some("zyx"), None],
+    has_old: true,
 };
 
 const DELETE: Given = Given {
     event: Event::Delete,
     key: "1",
     new: [None, None, None],
-    old: Some([Some("1"), Some("zyx"), None]),
+    old: [Some("1"), Some("zyx"), None],
+    has_old: true,
 };
 
 fn without_old(given: Given) -> Given {
-    Given { old: None, ..given }
+    Given {
+        has_old: false,
+        ..given
+    }
 }
 
 fn with_a(a: Option<&'static str>) -> Given {
@@ -54,13 +60,28 @@ fn loaded(
     told(alloc, rows.inner().as_slice())
 }
 
+/// Adds a line: what one transform makes of a row as it is loaded.
+fn tell(
+    alloc: Global,
+    out: &mut String,
+    policy: ColumnPolicy,
+    action: DeleteAction,
+    columns: &[Column],
+    given: Given,
+) -> Result<(), NoMemory> {
+    let made = loaded(alloc, policy, action, columns, given)?;
+    out.push_str(made.as_str())?;
+    out.push('\n')?;
+    Ok(())
+}
+
 #[test]
 fn each_kind_of_column(rt: HostRuntime) -> Result<(), Fail> {
     let alloc = rt.alloc();
     let text = Some("abcdef");
-    let exact = ["a", "1", "*", "9"];
-    let star = ["*", "9", "a", "1"];
-    let twice = ["a", "1", "a", "2"];
+    let exact = Part::Map("a", "1", "*", "9");
+    let star = Part::Map("*", "9", "a", "1");
+    let twice = Part::Map("a", "1", "a", "2");
     for (source, part, a, wanted) in [
         ("a", Part::Copy, text, "'abcdef'"),
         ("a", Part::Copy, Some(""), "''"),
@@ -82,13 +103,13 @@ fn each_kind_of_column(rt: HostRuntime) -> Result<(), Fail> {
         ("a", Part::Substr(4, None), text, "'ef'"),
         ("a", Part::Substr(1, Some(2)), Some("äöü"), "'ö'"),
         ("a", Part::Substr(0, None), None, "null"),
-        ("a", Part::Map(exact), Some("a"), "'1'"),
-        ("a", Part::Map(exact), Some("z"), "'9'"),
-        ("a", Part::Map(star), Some("a"), "'1'"),
-        ("a", Part::Map(star), Some("*"), "'9'"),
-        ("a", Part::Map(twice), Some("a"), "'1'"),
-        ("a", Part::Map(twice), Some("z"), "null"),
-        ("a", Part::Map(exact), None, "null"),
+        ("a", exact, Some("a"), "'1'"),
+        ("a", exact, Some("z"), "'9'"),
+        ("a", star, Some("a"), "'1'"),
+        ("a", star, Some("*"), "'9'"),
+        ("a", twice, Some("a"), "'1'"),
+        ("a", twice, Some("z"), "null"),
+        ("a", exact, None, "null"),
         ("", Part::Variable(NodeWord::SourceNode), text, "'s1'"),
         ("b", Part::Variable(NodeWord::TargetNode), None, "'corp'"),
     ] {
@@ -137,216 +158,139 @@ const SUM: [Column; 2] = [
     ("b", "b", false, "*", Part::Additive(-2)),
 ];
 
+/// The listed columns alone, in their order.
+const LISTED_COLUMNS_ARE_MADE: &str = "\
+insert u keys id; columns id o k '1' 'ab' 'new'
+update u keys id '1'; columns id o '2' 'ab'; old '1' 'zy'
+update u keys id '1'; columns id o '2' 'ab'
+delete u keys id '1'; columns id o; old '1' 'zy'
+delete u keys id '1'; columns id o
+
+update u keys id '1'; columns id o '2' 'ab'; old '1' 'zy'
+update u keys id '1'; columns id o '1' 'zy'; old '1' 'zy'
+update u keys id '1'; columns id o '1' null
+insert u keys id; columns id o k '1' 'ab' 'new'
+";
+
 #[test]
-fn policies_events_keys_and_deletes(rt: HostRuntime) -> Result<(), Fail> {
+fn listed_columns_are_made(rt: HostRuntime) -> Result<(), Fail> {
     let alloc = rt.alloc();
     let row = DeleteAction::DelRow;
     let mark = DeleteAction::UpdateCol;
     let nothing = DeleteAction::Nothing;
     let listed = ColumnPolicy::Specified;
+    let lone = without_old(UPDATE);
+    let gone = without_old(DELETE);
+    let mut out = String::new(alloc);
+    tell(alloc, &mut out, listed, row, &THREE, INSERT)?;
+    tell(alloc, &mut out, listed, row, &THREE, UPDATE)?;
+    tell(alloc, &mut out, listed, row, &THREE, lone)?;
+    tell(alloc, &mut out, listed, row, &THREE, DELETE)?;
+    tell(alloc, &mut out, listed, row, &THREE, gone)?;
+    tell(alloc, &mut out, listed, nothing, &THREE, DELETE)?;
+    tell(alloc, &mut out, listed, nothing, &THREE, UPDATE)?;
+    tell(alloc, &mut out, listed, mark, &THREE, DELETE)?;
+    tell(alloc, &mut out, listed, mark, &THREE, gone)?;
+    tell(alloc, &mut out, listed, mark, &THREE, INSERT)?;
+    assert_eq!(rt; out.as_str(), LISTED_COLUMNS_ARE_MADE);
+    Ok(())
+}
+
+/// The source's columns in their places, and then the further ones.
+const COLUMNS_OF_THE_SOURCE_STAY: &str = "\
+insert u keys id; columns id a z '1' null 'new'
+update u keys id '1'; columns id a b z '2' 'x' 'x' 'new'; old '1' null null 'new'
+update u keys id '1'; columns id a b z '2' 'x' 'x' 'new'
+delete u keys id '1'; columns id a b; old '1' null null
+delete u keys id '1'; columns id a b
+";
+
+#[test]
+fn columns_of_the_source_stay(rt: HostRuntime) -> Result<(), Fail> {
+    let alloc = rt.alloc();
+    let row = DeleteAction::DelRow;
     let all = ColumnPolicy::Implied;
     let lone = without_old(UPDATE);
     let gone = without_old(DELETE);
-    for (policy, action, columns, given, wanted) in [
-        // The listed columns alone, in their order.
-        (
-            listed,
-            row,
-            THREE.as_slice(),
-            INSERT,
-            "insert u keys id; columns id o k '1' 'ab' 'new'",
-        ),
-        (
-            listed,
-            row,
-            THREE.as_slice(),
-            UPDATE,
-            "update u keys id '1'; columns id o '2' 'ab'; old '1' 'zy'",
-        ),
-        (
-            listed,
-            row,
-            THREE.as_slice(),
-            lone,
-            "update u keys id '1'; columns id o '2' 'ab'",
-        ),
-        (
-            listed,
-            row,
-            THREE.as_slice(),
-            DELETE,
-            "delete u keys id '1'; columns id o; old '1' 'zy'",
-        ),
-        (
-            listed,
-            row,
-            THREE.as_slice(),
-            gone,
-            "delete u keys id '1'; columns id o",
-        ),
-        (listed, nothing, THREE.as_slice(), DELETE, ""),
-        (
-            listed,
-            nothing,
-            THREE.as_slice(),
-            UPDATE,
-            "update u keys id '1'; columns id o '2' 'ab'; old '1' 'zy'",
-        ),
-        (
-            listed,
-            mark,
-            THREE.as_slice(),
-            DELETE,
-            "update u keys id '1'; columns id o '1' 'zy'; old '1' 'zy'",
-        ),
-        (
-            listed,
-            mark,
-            THREE.as_slice(),
-            gone,
-            "update u keys id '1'; columns id o '1' null",
-        ),
-        (
-            listed,
-            mark,
-            THREE.as_slice(),
-            INSERT,
-            "insert u keys id; columns id o k '1' 'ab' 'new'",
-        ),
-        // The source's columns in their places, and then the further ones.
-        (
-            all,
-            row,
-            OTHERS.as_slice(),
-            INSERT,
-            "insert u keys id; columns id a z '1' null 'new'",
-        ),
-        (
-            all,
-            row,
-            OTHERS.as_slice(),
-            UPDATE,
-            "update u keys id '1'; columns id a b z '2' 'x' 'x' 'new'; old '1' null null 'new'",
-        ),
-        (
-            all,
-            row,
-            OTHERS.as_slice(),
-            lone,
-            "update u keys id '1'; columns id a b z '2' 'x' 'x' 'new'",
-        ),
-        (
-            all,
-            row,
-            OTHERS.as_slice(),
-            DELETE,
-            "delete u keys id '1'; columns id a b; old '1' null null",
-        ),
-        (
-            all,
-            row,
-            OTHERS.as_slice(),
-            gone,
-            "delete u keys id '1'; columns id a b",
-        ),
-        // Keys: the listed ones, and then those of the source that remain.
-        (
-            all,
-            row,
-            OTHER_KEY.as_slice(),
-            INSERT,
-            "insert u keys n; columns a b n 'abcdef' null '1'",
-        ),
-        (
-            all,
-            row,
-            OTHER_KEY.as_slice(),
-            UPDATE,
-            "update u keys n '1'; columns a b n 'abcdef' 'x' '2'; old 'zyx' null '1'",
-        ),
-        (
-            all,
-            row,
-            BOTH_KEYS.as_slice(),
-            UPDATE,
-            "update u keys n id 'zyx' '1'; columns id a b n '2' 'abcdef' 'x' 'abcdef'; old '1' 'zyx' null 'zyx'",
-        ),
-        (
-            all,
-            row,
-            BOTH_KEYS.as_slice(),
-            gone,
-            "delete u keys n id null '1'; columns id a b n gone",
-        ),
-        (
-            listed,
-            row,
-            MARK.as_slice(),
-            UPDATE,
-            "update u keys; columns; old",
-        ),
-        // A delete that becomes an update: the listed columns, and the source's keys that remain.
-        (
-            all,
-            mark,
-            MARK.as_slice(),
-            DELETE,
-            "update u keys id '1'; columns gone id 'yes' '1'; old 'yes' '1'",
-        ),
-        (
-            all,
-            mark,
-            MARK.as_slice(),
-            gone,
-            "update u keys id '1'; columns gone id 'yes' '1'",
-        ),
-        (
-            all,
-            mark,
-            OTHER_KEY.as_slice(),
-            DELETE,
-            "update u keys n '1'; columns n gone '1' 'yes'; old '1' 'yes'",
-        ),
-        (
-            all,
-            mark,
-            BOTH_KEYS.as_slice(),
-            DELETE,
-            "update u keys n id 'zyx' '1'; columns n gone id 'zyx' 'yes' '1'; old 'zyx' 'yes' '1'",
-        ),
-        // A column that is added to; of a delete nothing is.
-        (
-            listed,
-            row,
-            SUM.as_slice(),
-            INSERT,
-            "insert u keys id; columns id b '1' null; adds 2 by -2",
-        ),
-        (
-            listed,
-            row,
-            SUM.as_slice(),
-            UPDATE,
-            "update u keys id '1'; columns id b '2' 'x'; old '1' null; adds 2 by -2",
-        ),
-        (
-            listed,
-            row,
-            SUM.as_slice(),
-            DELETE,
-            "delete u keys id '1'; columns id; old '1'",
-        ),
-        (
-            all,
-            row,
-            SUM.as_slice(),
-            DELETE,
-            "delete u keys id '1'; columns id a b; old '1' 'zyx' null",
-        ),
-    ] {
-        let got = loaded(alloc, policy, action, columns, given)?;
-        assert_eq!(rt; got.as_str(), wanted, "{policy:?} {action:?} {given:?}");
-    }
+    let mut out = String::new(alloc);
+    tell(alloc, &mut out, all, row, &OTHERS, INSERT)?;
+    tell(alloc, &mut out, all, row, &OTHERS, UPDATE)?;
+    tell(alloc, &mut out, all, row, &OTHERS, lone)?;
+    tell(alloc, &mut out, all, row, &OTHERS, DELETE)?;
+    tell(alloc, &mut out, all, row, &OTHERS, gone)?;
+    assert_eq!(rt; out.as_str(), COLUMNS_OF_THE_SOURCE_STAY);
+    Ok(())
+}
+
+/// Keys: the listed ones, and then those of the source that remain.
+const KEYS_ARE_MADE: &str = "\
+insert u keys n; columns a b n 'abcdef' null '1'
+update u keys n '1'; columns a b n 'abcdef' 'x' '2'; old 'zyx' null '1'
+update u keys n id 'zyx' '1'; columns id a b n '2' 'abcdef' 'x' 'abcdef'; old '1' 'zyx' null 'zyx'
+delete u keys n id null '1'; columns id a b n gone
+update u keys; columns; old
+";
+
+#[test]
+fn keys_are_made(rt: HostRuntime) -> Result<(), Fail> {
+    let alloc = rt.alloc();
+    let row = DeleteAction::DelRow;
+    let listed = ColumnPolicy::Specified;
+    let all = ColumnPolicy::Implied;
+    let gone = without_old(DELETE);
+    let mut out = String::new(alloc);
+    tell(alloc, &mut out, all, row, &OTHER_KEY, INSERT)?;
+    tell(alloc, &mut out, all, row, &OTHER_KEY, UPDATE)?;
+    tell(alloc, &mut out, all, row, &BOTH_KEYS, UPDATE)?;
+    tell(alloc, &mut out, all, row, &BOTH_KEYS, gone)?;
+    tell(alloc, &mut out, listed, row, &MARK, UPDATE)?;
+    assert_eq!(rt; out.as_str(), KEYS_ARE_MADE);
+    Ok(())
+}
+
+/// A delete that becomes an update: the listed columns, and the source's keys that remain.
+const DELETES_BECOME_UPDATES: &str = "\
+update u keys id '1'; columns gone id 'yes' '1'; old 'yes' '1'
+update u keys id '1'; columns gone id 'yes' '1'
+update u keys n '1'; columns n gone '1' 'yes'; old '1' 'yes'
+update u keys n id 'zyx' '1'; columns n gone id 'zyx' 'yes' '1'; old 'zyx' 'yes' '1'
+";
+
+#[test]
+fn deletes_become_updates(rt: HostRuntime) -> Result<(), Fail> {
+    let alloc = rt.alloc();
+    let mark = DeleteAction::UpdateCol;
+    let all = ColumnPolicy::Implied;
+    let gone = without_old(DELETE);
+    let mut out = String::new(alloc);
+    tell(alloc, &mut out, all, mark, &MARK, DELETE)?;
+    tell(alloc, &mut out, all, mark, &MARK, gone)?;
+    tell(alloc, &mut out, all, mark, &OTHER_KEY, DELETE)?;
+    tell(alloc, &mut out, all, mark, &BOTH_KEYS, DELETE)?;
+    assert_eq!(rt; out.as_str(), DELETES_BECOME_UPDATES);
+    Ok(())
+}
+
+/// A column that is added to; of a delete nothing is.
+const NUMBERS_ARE_ADDED: &str = "\
+insert u keys id; columns id b '1' null; adds 2 by -2
+update u keys id '1'; columns id b '2' 'x'; old '1' null; adds 2 by -2
+delete u keys id '1'; columns id; old '1'
+delete u keys id '1'; columns id a b; old '1' 'zyx' null
+";
+
+#[test]
+fn numbers_are_added(rt: HostRuntime) -> Result<(), Fail> {
+    let alloc = rt.alloc();
+    let row = DeleteAction::DelRow;
+    let listed = ColumnPolicy::Specified;
+    let all = ColumnPolicy::Implied;
+    let mut out = String::new(alloc);
+    tell(alloc, &mut out, listed, row, &SUM, INSERT)?;
+    tell(alloc, &mut out, listed, row, &SUM, UPDATE)?;
+    tell(alloc, &mut out, listed, row, &SUM, DELETE)?;
+    tell(alloc, &mut out, all, row, &SUM, DELETE)?;
+    assert_eq!(rt; out.as_str(), NUMBERS_ARE_ADDED);
     Ok(())
 }
 
@@ -431,49 +375,40 @@ fn changes_are_written(rt: HostRuntime) -> Result<(), Fail> {
     Ok(())
 }
 
+const SEVERAL_INSERTS: &str = "\
+insert u keys id; columns id o k '1' 'ab' 'new' | insert u keys id; columns id o k '1' 'ab' 'new' | \
+insert u keys id; columns id b '1' null; adds 2 by -2";
+
 #[test]
 fn several_transforms_of_one_table(rt: HostRuntime) -> Result<(), Fail> {
     let alloc = rt.alloc();
     let policy = ColumnPolicy::Specified;
     let mut transforms = List::new(alloc);
-    for (place, nothing) in [(0, true), (1, false), (2, false), (3, false), (4, false)] {
-        let action = if nothing {
-            DeleteAction::Nothing
-        } else {
-            DeleteAction::DelRow
-        };
-        let columns = if place == 2 {
-            SUM.as_slice()
-        } else {
-            THREE.as_slice()
-        };
-        let point = if place == 3 {
-            Point::Extract
-        } else {
-            Point::Load
-        };
-        let mut one = transform(alloc, point, policy, action, columns)?;
-        if place == 4 {
-            one.source_group = 0;
-        }
-        transforms.push(one)?;
-    }
+    let nothing = DeleteAction::Nothing;
+    let row = DeleteAction::DelRow;
+    let undeleted = transform(alloc, Point::Load, policy, nothing, &THREE)?;
+    transforms.push(undeleted)?;
+    let whole = transform(alloc, Point::Load, policy, row, &THREE)?;
+    transforms.push(whole)?;
+    let added = transform(alloc, Point::Load, policy, row, &SUM)?;
+    transforms.push(added)?;
+    let written = transform(alloc, Point::Extract, policy, row, &THREE)?;
+    transforms.push(written)?;
+    let mut back = transform(alloc, Point::Load, policy, row, &THREE)?;
+    back.source_group = 0;
+    transforms.push(back)?;
     let config = config(alloc, transforms)?;
     let way = way(alloc)?;
-    for (given, wanted) in [
-        (
-            INSERT,
-            "insert u keys id; columns id o k '1' 'ab' 'new' | insert u keys id; columns id o k '1' 'ab' 'new' | insert u keys id; columns id b '1' null; adds 2 by -2",
-        ),
-        (
-            without_old(DELETE),
-            "delete u keys id '1'; columns id o | delete u keys id '1'; columns id",
-        ),
-    ] {
-        let rows = at_load(alloc, &config, &way, &row_of(alloc, given)?)?;
-        let got = told(alloc, rows.inner().as_slice())?;
-        assert_eq!(rt; got.as_str(), wanted, "{given:?}");
-    }
+    let rows = at_load(alloc, &config, &way, &row_of(alloc, INSERT)?)?;
+    let got = told(alloc, rows.inner().as_slice())?;
+    assert_eq!(rt; got.as_str(), SEVERAL_INSERTS);
+    let delete = row_of(alloc, without_old(DELETE))?;
+    let rows = at_load(alloc, &config, &way, &delete)?;
+    let got = told(alloc, rows.inner().as_slice())?;
+    assert_eq!(rt;
+        got.as_str(),
+        "delete u keys id '1'; columns id o | delete u keys id '1'; columns id"
+    );
     let mut other = row_of(alloc, INSERT)?;
     other.table = Txt::copied(alloc, "other")?;
     let rows = at_load(alloc, &config, &way, &other)?;

@@ -16,7 +16,7 @@ pub(crate) enum Part {
     Left(u32),
     Substr(u32, Option<u32>),
     /// Two pairs: the source and the target of each.
-    Map([&'static str; 4]),
+    Map(&'static str, &'static str, &'static str, &'static str),
     Variable(NodeWord),
     Additive(i32),
 }
@@ -31,7 +31,8 @@ pub(crate) struct Given {
     pub(crate) event: Event,
     pub(crate) key: &'static str,
     pub(crate) new: [Option<&'static str>; 3],
-    pub(crate) old: Option<[Option<&'static str>; 3]>,
+    pub(crate) old: [Option<&'static str>; 3],
+    pub(crate) has_old: bool,
 }
 
 fn pair(alloc: Global, source: &str, target: &str) -> Result<MapPair, NoMemory> {
@@ -41,10 +42,10 @@ fn pair(alloc: Global, source: &str, target: &str) -> Result<MapPair, NoMemory> 
     })
 }
 
-fn pairs(alloc: Global, words: [&'static str; 4]) -> Result<List<MapPair>, NoMemory> {
+fn pairs(alloc: Global, first: MapPair, second: MapPair) -> Result<List<MapPair>, NoMemory> {
     let mut pairs = List::new(alloc);
-    pairs.push(pair(alloc, words[0], words[1])?)?;
-    pairs.push(pair(alloc, words[2], words[3])?)?;
+    pairs.push(first)?;
+    pairs.push(second)?;
     Ok(pairs)
 }
 
@@ -61,10 +62,14 @@ fn parsed(alloc: Global, part: Part) -> Result<(ColumnKind, ColumnExpression), N
             ColumnKind::Substr,
             ColumnExpression::Substr(Substring { first, end }),
         ),
-        Part::Map(words) => (
-            ColumnKind::ValueMap,
-            ColumnExpression::ValueMap(pairs(alloc, words)?),
-        ),
+        Part::Map(one, into, other, onto) => {
+            let first = pair(alloc, one, into)?;
+            let second = pair(alloc, other, onto)?;
+            (
+                ColumnKind::ValueMap,
+                ColumnExpression::ValueMap(pairs(alloc, first, second)?),
+            )
+        }
         Part::Variable(node) => (ColumnKind::Variable, ColumnExpression::Variable(node)),
         Part::Additive(factor) => (ColumnKind::Additive, ColumnExpression::Additive(factor)),
     })
@@ -201,9 +206,10 @@ pub(crate) fn row_of(alloc: Global, given: Given) -> Result<DocRow, NoMemory> {
             fields(alloc, given.new)?
         },
         key,
-        old: match given.old {
-            None => None,
-            Some(old) => Some(fields(alloc, old)?),
+        old: if given.has_old {
+            Some(fields(alloc, given.old)?)
+        } else {
+            None
         },
     })
 }
