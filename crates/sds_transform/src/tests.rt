@@ -1,9 +1,9 @@
 //! Rows that transforms make, each case in a table with what is due.
-use crate::tests_parts::{Column, Given, Part, config, row_of, told, told_rows, transform, way};
-use crate::{at_load, extract};
+use crate::at_load;
+use crate::tests_parts::{Column, Given, Part, config, row_of, told, transform, way};
 use sds_base::{List, NoMemory, Txt};
-use sds_types::{Change, ColumnPolicy, DeleteAction, NodeWord, Point, Row};
-use sds_value::{Event, Value};
+use sds_types::{ColumnPolicy, DeleteAction, NodeWord, Point};
+use sds_value::Event;
 use std::alloc::Global;
 use std::test::Fail;
 
@@ -291,87 +291,6 @@ fn numbers_are_added(rt: HostRuntime) -> Result<(), Fail> {
     tell(alloc, &mut out, listed, row, &SUM, DELETE)?;
     tell(alloc, &mut out, all, row, &SUM, DELETE)?;
     assert_eq!(rt; out.as_str(), NUMBERS_ARE_ADDED);
-    Ok(())
-}
-
-/// A change of the table `t`, from one row to another.
-fn change(alloc: Global, event: Event, new: Option<Row>, old: Option<Row>) -> Change {
-    Change {
-        id: 1,
-        tx: 1,
-        table: 0,
-        event,
-        new,
-        old,
-        channel: 0,
-        source: None,
-    }
-}
-
-/// A row of the table `t`: an INTEGER, a VARCHAR and a DECIMAL of two digits.
-fn stored(alloc: Global, id: i64, a: &str, b: Option<i64>) -> Result<Row, NoMemory> {
-    let mut values = List::new(alloc);
-    values.push(Value::Integer(id))?;
-    values.push(Value::Text(Txt::copied(alloc, a)?))?;
-    values.push(match b {
-        None => Value::Null,
-        Some(units) => Value::Decimal(units),
-    })?;
-    Ok(Row(values))
-}
-
-/// What a change of one row into another becomes, under transforms at both points.
-fn written(
-    alloc: Global,
-    points: &[Point],
-    event: Event,
-    new: Option<Row>,
-    old: Option<Row>,
-) -> Result<String, NoMemory> {
-    let mut transforms = List::new(alloc);
-    for point in points {
-        let policy = ColumnPolicy::Specified;
-        let one = transform(alloc, *point, policy, DeleteAction::UpdateCol, &THREE)?;
-        transforms.push(one)?;
-    }
-    let config = config(alloc, transforms)?;
-    let rows = extract(
-        alloc,
-        &config,
-        &way(alloc)?,
-        &change(alloc, event, new, old),
-    )?;
-    told_rows(alloc, rows.inner().as_slice())
-}
-
-#[test]
-fn changes_are_written(rt: HostRuntime) -> Result<(), Fail> {
-    let alloc = rt.alloc();
-    let pen = stored(alloc, 1, "Pen", Some(250))?;
-    let got = written(alloc, &[Point::Load], Event::Insert, Some(pen), None)?;
-    assert_eq!(rt;
-        got.as_str(),
-        "insert t keys id; columns id a b '1' 'Pen' '2.50'"
-    );
-    let cap = stored(alloc, 1, "Cap", None)?;
-    let pen = stored(alloc, 2, "Pen", Some(-5))?;
-    let got = written(alloc, &[], Event::Update, Some(pen), Some(cap))?;
-    assert_eq!(rt;
-        got.as_str(),
-        "update t keys id '1'; columns id a b '2' 'Pen' '-0.05'; old '1' 'Cap' null"
-    );
-    let cap = stored(alloc, 1, "Cap", None)?;
-    let got = written(alloc, &[], Event::Delete, None, Some(cap))?;
-    assert_eq!(rt;
-        got.as_str(),
-        "delete t keys id '1'; columns id a b; old '1' 'Cap' null"
-    );
-    let cap = stored(alloc, 1, "Cap", None)?;
-    let points = [Point::Extract, Point::Load, Point::Extract];
-    let got = written(alloc, &points, Event::Delete, None, Some(cap))?;
-    let one = "update u keys id '1'; columns id o '1' 'Ca'; old '1' 'Ca'";
-    let due = format!(in alloc; "{one} | {one}")?;
-    assert_eq!(rt; got.as_str(), due.as_str());
     Ok(())
 }
 

@@ -282,15 +282,3 @@ pub(crate) fn told(alloc: Global, rows: &[Shaped]) -> Result<String, NoMemory> {
     }
     Ok(out)
 }
-
-/// Rows of a batch in words.
-pub(crate) fn told_rows(alloc: Global, rows: &[DocRow]) -> Result<String, NoMemory> {
-    let mut out = String::new(alloc);
-    for (place, row) in rows.iter().enumerate() {
-        if place > 0 {
-            out.push_str(" | ")?;
-        }
-        put_row(row, &mut out)?;
-    }
-    Ok(out)
-}

@@ -4,13 +4,10 @@ ghost use Rattle.std.specs.Prelude.{◌≡◌, ◌≤◌, IfOk, [], ◌∷◌, l
 ghost use Rattle.std.specs.List.{flat_map, list_any};
 ghost use Rattle.std.specs.Option.{option_to_list};
 ghost use Rattle.std.specs.Str.{bytes_eq};
-ghost use Rattle.sds_types.specs.Limits.{most_columns};
 ghost use Rattle.sds_types.specs.declared.transform.Point.TheVariants.{Extract, Load};
 ghost use Rattle.sds_trade.specs.rules.Fitting.{FitsChange};
 ghost use Rattle.sds_trade.specs.rules.Places as place;
 ghost use Rattle.sds_trade.specs.rules.Transforms as stated;
-ghost use Rattle.sds_trade.specs.rules.Sound.{IsSound};
-ghost use Rattle.sds_trade.specs.sound.Tables.{AreTableDefs};
 ghost use Rattle.sds_transform.specs.Made.{rows_by};
 
 use crate::change_rows::row_of_change;
@@ -53,7 +50,6 @@ pub fn at_load(
     way: &Way,
     row: &DocRow,
 ) -> Result<List<Shaped>, NoMemory>
-    requires { IsSound config.now }
     ensures { IfOk result (λ rows. rows ≡ stated.shaped_rows config.now way.now row.now) }
 {
     if is_transformed(config, way, Point::Load, &row.table) {
@@ -84,7 +80,6 @@ fn rows_shaped(
     way: &Way,
     row: &DocRow,
 ) -> Result<List<Shaped>, NoMemory>
-    requires { IsSound config.now }
     ensures { IfOk result (λ rows. rows ≡ flat_map
         (stated.shaped_by config.now.tables way.now row.now)
         (stated.transforms_for config.now way.now Load row.now.table)) }
@@ -171,7 +166,6 @@ fn shaped_by(
     row: &DocRow,
     transform: &TransformDef,
 ) -> Result<Option<Shaped>, NoMemory>
-    requires { AreTableDefs config.now.tables }
     ensures { IfOk result (λ made. option_to_list made
         ≡ stated.shaped_by config.now.tables way.now row.now transform.now) }
 {
@@ -191,14 +185,13 @@ fn adds_of(
     transform: &TransformDef,
     row: &DocRow,
 ) -> Result<List<Add>, NoMemory>
-    requires { AreTableDefs defs.now }
     ensures { IfOk result (λ adds. adds ≡ stated.adds_of defs.now transform.now row.now) }
 {
     let table = columns_named(defs, &transform.target_table);
     let mut adds = List::new(alloc);
     for column in transform.columns.inner() {
         if takes_part(row.event, column) {
-            if let Some(add) = add_of(table, column) {
+            if let Some(add) = add_of(table, column)? {
                 adds.push(add)?;
             }
         }
@@ -206,30 +199,31 @@ fn adds_of(
     Ok(adds)
 }
 
-/// The column of a table that a transform's column adds to.
-fn add_of(table: &[ColumnDef], column: &TransformColumn) -> Option<Add>
-    requires { length table.now ≤ most_columns }
-    ensures { result ≡ stated.add_by (place.column_place table.now column.now.target)
-        column.now.parsed }
+/// The column of a table that a transform's column adds to. A place past 32 bits, where no table of
+/// a configuration has a column, is out of memory.
+fn add_of(table: &[ColumnDef], column: &TransformColumn) -> Result<Option<Add>, NoMemory>
+    ensures { IfOk result (λ add. add ≡ stated.add_by (place.column_place table.now column.now.target)
+        column.now.parsed) }
 {
     let ColumnExpression::Additive(factor) = &column.parsed else {
-        return None;
+        return Ok(None);
     };
-    match column_place(table, &column.target) {
-        None => None,
-        Some(place) => Some(Add {
-            column: place as u32,
-            multiplier: *factor as i64,
-        }),
-    }
+    let Some(place) = column_place(table, &column.target) else {
+        return Ok(None);
+    };
+    let Ok(place) = u32::try_from(place) else {
+        return Err(NoMemory);
+    };
+    Ok(Some(Add {
+        column: place,
+        multiplier: *factor as i64,
+    }))
 }
 
 /// The columns of the table of a name, of which there are none where no table has it.
 fn columns_named<'a>(defs: &'a [TableDef], name: &Txt) -> &'a [ColumnDef]
-    requires { AreTableDefs defs.now }
-    ensures columns { result.now ≡ place.columns_at defs.now
+    ensures { result.now ≡ place.columns_at defs.now
         (unwrap_or (place.table_place defs.now name.now) (length defs.now)) }
-    ensures few { length result.now ≤ most_columns }
 {
     match table_place(defs, name) {
         None => &[],
