@@ -1,11 +1,11 @@
 //! Which transforms are for a row on its way from one node to another, and what they make of it, as
 //! its batch is written and as it is loaded.
-ghost use Rattle.std.specs.Prelude.{◌≡◌, ◌≤◌, IfOk, [], ◌∷◌, length, option_copied, slice_get, unwrap_or};
+ghost use Rattle.std.specs.Prelude.{◌≡◌, IfOk, IfSome, [], ◌∷◌, length, option_copied, slice_get, unwrap_or};
 ghost use Rattle.std.specs.List.{flat_map, list_any};
 ghost use Rattle.std.specs.Option.{option_to_list};
 ghost use Rattle.std.specs.Str.{bytes_eq};
 ghost use Rattle.sds_types.specs.declared.transform.Point.TheVariants.{Extract, Load};
-ghost use Rattle.sds_trade.specs.rules.Fitting.{FitsChange};
+ghost use Rattle.sds_trade.specs.rules.Fitting.{FitsRow};
 ghost use Rattle.sds_trade.specs.rules.Places as place;
 ghost use Rattle.sds_trade.specs.rules.Transforms as stated;
 ghost use Rattle.sds_transform.specs.Made.{rows_by};
@@ -29,7 +29,8 @@ pub fn extract(
     way: &Way,
     change: &Change,
 ) -> Result<List<DocRow>, NoMemory>
-    requires { FitsChange config.now change.now }
+    requires new { IfSome change.now.new (FitsRow config.now.tables change.now.table) }
+    requires old { IfSome change.now.old (FitsRow config.now.tables change.now.table) }
     ensures { IfOk result (λ rows. rows ≡ stated.extracted_rows config.now way.now change.now) }
 {
     let row = row_of_change(alloc, config.tables.inner().as_slice(), change)?;
@@ -202,8 +203,8 @@ fn adds_of(
 /// The column of a table that a transform's column adds to. A place past 32 bits, where no table of
 /// a configuration has a column, is out of memory.
 fn add_of(table: &[ColumnDef], column: &TransformColumn) -> Result<Option<Add>, NoMemory>
-    ensures { IfOk result (λ add. add ≡ stated.add_by (place.column_place table.now column.now.target)
-        column.now.parsed) }
+    ensures { IfOk result (λ add. add ≡ stated.add_by
+        (place.column_place table.now column.now.target) column.now.parsed) }
 {
     let ColumnExpression::Additive(factor) = &column.parsed else {
         return Ok(None);
