@@ -51,7 +51,8 @@ fn table_of(step: &RowStep) -> u32
 /// The trigger that stands on a table, with its place.
 fn trigger_on(triggers: &[TriggerDef], table: u32) -> Option<(usize, &TriggerDef)>
     ensures { option_map (λ at. (at.0, at.1.now)) result
-        ≡ find (λ (at : ℕ × TriggerDef). at.1.source_table == table) (enumerate_from 0 triggers.now) }
+        ≡ find (λ (at : ℕ × TriggerDef). at.1.source_table == table)
+        (enumerate_from 0 triggers.now) }
 {
     for (place, trigger) in triggers.iter().enumerate() {
         if trigger.source_table == table {
@@ -70,7 +71,8 @@ fn captures(
     place: usize,
     trigger: &TriggerDef,
 ) -> bool
-    ensures { result ≡ rules.captures config.now (chars group.now) incoming step.now (place, trigger.now) }
+    ensures { result ≡ rules.captures config.now (chars group.now) incoming step.now
+        (place, trigger.now) }
 {
     syncs_on(trigger, step)
         && (!incoming || trigger.sync_on_incoming_batch)

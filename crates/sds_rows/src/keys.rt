@@ -125,7 +125,8 @@ pub(crate) fn order_by_row(defs: &[TableDef], other: &TableRow, table: u32, row:
 
 /// Whether a row of a table has a key.
 pub(crate) fn has_own_key(defs: &[TableDef], table: u32, row: &Row, key: &[Value]) -> bool
-    ensures { result ≡ stand.same_key (stand.key_of defs.now table row.now) (record { 0 = key.now }) }
+    ensures { result
+        ≡ stand.same_key (stand.key_of defs.now table row.now) (record { 0 = key.now }) }
 {
     order_of_key(key_places(defs, table), row.0.inner().as_slice(), key).is_eq()
 }

@@ -96,7 +96,8 @@ pub(crate) fn finds_parents(
     row: &Row,
 ) -> bool
     requires { stand.Ascend defs.now rows.now }
-    ensures { result ≡ stand.finds_parents defs.now (rows_after defs.now rows.now step.now) table row.now }
+    ensures { result ≡ stand.finds_parents defs.now
+        (rows_after defs.now rows.now step.now) table row.now }
 {
     let columns = columns_at(defs, table);
     let values = row.0.inner().as_slice();
