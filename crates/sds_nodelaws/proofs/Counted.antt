@@ -189,7 +189,7 @@ out_ids : (peers : List Peer) (batches : List NewBatch) → batch_ids (map (out_
 out_ids peers [] = refl
 out_ids peers (batch ∷ batches) = ap (λ ids. batch.id ∷ ids) (out_ids peers batches)
 
-next_ids : (config : Config) (opening : State) (first : ℕ) (runs : List Run)
+pub next_ids : (config : Config) (opening : State) (first : ℕ) (runs : List Run)
     → batch_ids (next_batches config opening first runs) ≡ range_with_len first (length (next_batches config opening first runs))
 next_ids config opening first runs =
     let peers : List Peer = peers_at opening runs in

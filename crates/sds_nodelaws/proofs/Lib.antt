@@ -9,3 +9,4 @@ pub mod Targets
 pub mod Channels
 pub mod Routing
 pub mod Routes
+pub mod Splicing

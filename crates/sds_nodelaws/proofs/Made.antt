@@ -1,9 +1,11 @@
--- What the acts of calls are: a write's number follows its writer's last, and other calls write nothing.
-use Rattle.std.proofs.Common.{◌≡◌, ℕ, ◌+◌, Bool, true, false, cond, List, Option, None, Some, Result, Ok, Err, refl, sym, ap, subst, ◌∙◌, arith, true≢false, ◌==◌}
+-- What the acts of calls are: a write's number follows its writer's last, and acks name batches that were made.
+use Rattle.std.proofs.Common.{◌≡◌, ℕ, ◌+◌, Bool, true, false, cond, List, Option, None, Some, Result, Ok, Err, refl, sym, ap, subst, ◌∙◌, arith, true≢false, ◌==◌, [], ◌∷◌, not, All}
 use Rattle.std.specs.Prelude.{is_some, nat_lt, length}
 use Rattle.std.proofs.lemmas.Bool.Decides.{nat_tests}
+use Rattle.std.proofs.lemmas.List.Elements.{All-nil, All-cons}
 use Rattle.sds_types.specs.Limits.{most_write_rows}
-use Rattle.sds_types.specs.declared.ack.AckRefusal.{AckRefusal}
+use Rattle.sds_types.specs.declared.ack.Ack.{Ack}
+use Rattle.sds_types.specs.declared.ack.AckRefusal.TheVariants.{UnknownNode}
 use Rattle.sds_types.specs.declared.config.Config.{Config}
 use Rattle.sds_types.specs.declared.counts.WriterLast.{WriterLast}
 use Rattle.sds_types.specs.declared.lane.LaneError.{LaneError}
@@ -18,7 +20,7 @@ use Rattle.sds_types.specs.declared.write_answer.WriteRefusal.TheVariants.{OldNu
 use Rattle.sds_types.specs.declared.write_answer.Written.{Written}
 use Rattle.sds_types.specs.declared.write_answer.Written.TheVariants.{Done, Again}
 use Rattle.sds_value.specs.declared.row.Peer.{Peer}
-use Rattle.sds_history.specs.history.Acks.{acks_by, own_acks_answer}
+use Rattle.sds_history.specs.history.Acks.{acks_by, changed_by, known_answer, names_batch, own_acks_answer, unknown_ack}
 use Rattle.sds_history.specs.history.Acts.{Act, State}
 use Rattle.sds_history.specs.history.Acts.Act.{Opened, Joined, Confirmed, Wrote, Routed, Loaded, Erred, Acked}
 use Rattle.sds_history.specs.history.Counters.{act_if, within, would_pass}
@@ -32,9 +34,13 @@ use Rattle.sds_history.specs.history.Writes.{last_answer, next_answer, next_writ
 use Rattle.sds_nodelaws.specs.Calls.{Call, act_of}
 use Rattle.sds_nodelaws.specs.Calls.Call.{Write, Route, Load, TakeAcks, Open, Register, Join, Confirm}
 
--- a write's number is one more than its writer's last
+-- a write's number is one more than its writer's last, and each ack is of a batch to the peer
+abbrev pub Names : State → List ℕ → Ack → Type 0
+Names state from ack = names_batch state from ack ≡ true
+
 abbrev pub Follows : State → Act → Type 0
 Follows state (Wrote writer number rows) = number ≡ last_number (writer_of state.writers writer) + 1
+Follows state (Acked from acks) = All (Names state from) acks
 Follows state act = Unit {0}
 
 -- OPTIONS
@@ -118,9 +124,33 @@ load_on state from batch (Some channel) (Err refusal) act is = nothing act is
 load_on state from batch None (Ok told) act is = nothing act is
 load_on state from batch None (Err refusal) act is = nothing act is
 
-acks_on : (state : State) (plain act : Act) (told : Result ℕ AckRefusal) → Follows state plain → acks_by plain told ≡ Some act → Follows state act
-acks_on state plain act (Ok count) follows is = if_on state plain act (nat_lt 0 count) follows is
-acks_on state plain act (Err refusal) follows is = nothing act is
+not_missing : (b : Bool) → not b ≡ false → b ≡ true
+not_missing true is = refl
+not_missing false is = sym is
+
+named_on : (state : State) (from : List ℕ) (ack : Ack) (acks : List Ack) (b : Bool) → not (names_batch state from ack) ≡ b
+    → (unknown_ack state from acks ≡ None → All (Names state from) acks) → cond b (Some ack) (unknown_ack state from acks) ≡ None
+    → All (Names state from) (ack ∷ acks)
+named_on state from ack acks true isnt rest none = absurd (true≢false (ap (λ o. elim o [ None ↦ false | Some a ↦ true ]) none))
+named_on state from ack acks false isnt rest none =
+    All-cons (Names state from) ack acks (not_missing (names_batch state from ack) isnt) (rest none)
+
+all_named : (state : State) (from : List ℕ) (acks : List Ack) → unknown_ack state from acks ≡ None → All (Names state from) acks
+all_named state from [] none = All-nil (Names state from)
+all_named state from (ack ∷ acks) none =
+    named_on state from ack acks (not (names_batch state from ack)) refl (all_named state from acks) none
+
+known_on : (config : Config) (state : State) (from : List ℕ) (acks : List Ack) (act : Act) (found : Option Ack) → unknown_ack state from acks ≡ found
+    → acks_by (Acked from acks) (known_answer config state from acks found) ≡ Some act → Follows state act
+known_on config state from acks act None found is =
+    if_on state (Acked from acks) act (nat_lt 0 (changed_by config state (Acked from acks))) (all_named state from acks found) is
+known_on config state from acks act (Some ack) found is = nothing act is
+
+acks_on : (config : Config) (state : State) (from : List ℕ) (acks : List Ack) (act : Act) (b : Bool)
+    → acks_by (Acked from acks) (cond b (known_answer config state from acks (unknown_ack state from acks)) (Err UnknownNode)) ≡ Some act
+    → Follows state act
+acks_on config state from acks act true is = known_on config state from acks act (unknown_ack state from acks) refl is
+acks_on config state from acks act false is = nothing act is
 
 opened_on : (state : State) (plain act : Act) (told : Result (Unit {0}) RegRefusal) → Follows state plain → act_by plain told ≡ Some act → Follows state act
 opened_on state plain act (Ok unit) follows is = subst (Follows state) (same_act plain act is) follows
@@ -147,7 +177,7 @@ made_follows config state (Load from batch) act is =
     load_on state from batch batch.channel (own_load_answer config state from batch) act
     (was_within config state (load_of state from batch batch.channel (own_load_answer config state from batch)) act is)
 made_follows config state (TakeAcks from acks) act is =
-    acks_on state (Acked from acks) act (own_acks_answer config state from acks) tt
+    acks_on config state from acks act (is_some (kept_peer state.peers from))
     (was_within config state (acks_by (Acked from acks) (own_acks_answer config state from acks)) act is)
 made_follows config state (Open group external noise) act is =
     opened_on state (Opened group external (token_of noise)) act (own_open_answer config state group external) tt

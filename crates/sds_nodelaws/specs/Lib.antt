@@ -3,3 +3,4 @@ pub mod Standings
 pub mod Calls
 pub mod Writers
 pub mod Routing
+pub mod Splicing

@@ -2,6 +2,7 @@
 ghost use Rattle.sds_nodelaws.specs.Counters.{CountersNeverFall, MarkStaysWithin};
 ghost use Rattle.sds_nodelaws.specs.Counters.{ChangesCountOn, BatchesCountOn};
 ghost use Rattle.sds_nodelaws.specs.Routing.{RoutedInOneBatch};
+ghost use Rattle.sds_nodelaws.specs.Splicing.{CallsStepOn, HistoriesSplice};
 ghost use Rattle.sds_nodelaws.specs.Standings.{OkIsFinal};
 ghost use Rattle.sds_nodelaws.specs.Writers.{WritersCount, LastIsKept};
 
@@ -44,4 +45,11 @@ pub fn writers_count()
 /// named for it at that run, by the tables and peers as they were then, and in no other batch.
 pub fn changes_are_routed_once()
     ensures once { RoutedInOneBatch }
+{}
+
+/// What a node has after a call follows from what it had before and the call's act alone; and a node
+/// that is opened again with what it has goes on as if it had never been closed.
+pub fn histories_splice()
+    ensures step { CallsStepOn }
+    ensures splice { HistoriesSplice }
 {}

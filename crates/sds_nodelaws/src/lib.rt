@@ -6,5 +6,5 @@ mod laws;
 
 pub use laws::{
     batches_count_on, changes_are_routed_once, changes_count_on, counters_never_fall,
-    mark_stays_within, ok_is_final, writers_count,
+    histories_splice, mark_stays_within, ok_is_final, writers_count,
 };
