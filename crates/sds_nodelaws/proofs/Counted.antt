@@ -107,7 +107,7 @@ next_number a m = omega arith
 no_more : (a : ℕ) → a + 0 ≡ a
 no_more a = omega arith
 
-ranges_append : (a n m : ℕ) → range_with_len a n ++ range_with_len (a + n) m ≡ range_with_len a (n + m)
+pub ranges_append : (a n m : ℕ) → range_with_len a n ++ range_with_len (a + n) m ≡ range_with_len a (n + m)
 ranges_append a zero m = ap (λ k. range_with_len k m) (no_more a) ∙ ap (λ k. range_with_len a k) (none_first m)
   where
     none_first : (k : ℕ) → k ≡ zero + k
@@ -143,7 +143,7 @@ captured_length config opening first tx run =
     ∙ (same_count config opening.me.group tx 0 (source_of run.act) (dones_of run.end)
     ∙ sym (numbered_count 0 (filter_map (change_of config opening.me.group 0 (source_of run.act)) (dones_of run.end))))
 
-captured_ids : (config : Config) (opening : State) (first tx : ℕ) (run : Run)
+pub captured_ids : (config : Config) (opening : State) (first tx : ℕ) (run : Run)
     → change_ids (captured_in config opening first tx run) ≡ range_with_len first (length (captured_in config opening 0 0 run))
 captured_ids config opening first tx run =
     numbers_are_consecutive config opening.me.group first tx (source_of run.act) (dones_of run.end)

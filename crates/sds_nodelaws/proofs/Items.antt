@@ -9,13 +9,13 @@ use Rattle.std.proofs.lemmas.Slice.Eq.{bytes_eq-Decides}
 use Rattle.sds_history.specs.history.Orders.{is_before, item_at, with_item}
 
 -- TESTS
-equal : (a b : List ℕ) → bytes_eq a b ≡ true → a ≡ b
+pub equal : (a b : List ℕ) → bytes_eq a b ≡ true → a ≡ b
 equal a b is = (bytes_eq-Decides a b).0 is
 
-itself : (a : List ℕ) → bytes_eq a a ≡ true
+pub itself : (a : List ℕ) → bytes_eq a a ≡ true
 itself a = (bytes_eq-Decides a a).1 refl
 
-differs : (a b : List ℕ) → a ≢ b → bytes_eq a b ≡ false
+pub differs : (a b : List ℕ) → a ≢ b → bytes_eq a b ≡ false
 differs a b isnt = differs_on (bytes_eq a b) refl
   where
     differs_on : (t : Bool) → bytes_eq a b ≡ t → t ≡ false
@@ -50,7 +50,7 @@ later_on : {X : Type 0} (p : X → Bool) (x : X) (xs ys : List X) (b : Bool) →
 later_on p x xs ys true rest none = absurd (true≢false (ap (λ o. elim o [ None ↦ false | Some y ↦ true ]) none))
 later_on p x xs ys false rest none = rest none
 
-find_later : {X : Type 0} (p : X → Bool) (xs ys : List X) → find p xs ≡ None → find p (xs ++ ys) ≡ find p ys
+pub find_later : {X : Type 0} (p : X → Bool) (xs ys : List X) → find p xs ≡ None → find p (xs ++ ys) ≡ find p ys
 find_later p [] ys none = refl
 find_later p (x ∷ xs) ys none = later_on p x xs ys (p x) (find_later p xs ys) none
 
@@ -59,7 +59,7 @@ first_on : {X : Type 0} (p : X → Bool) (y x : X) (xs ys : List X) (b : Bool) �
 first_on p y x xs ys true rest is = is
 first_on p y x xs ys false rest is = rest is
 
-find_first : {X : Type 0} (p : X → Bool) (xs ys : List X) (x : X) → find p xs ≡ Some x → find p (xs ++ ys) ≡ Some x
+pub find_first : {X : Type 0} (p : X → Bool) (xs ys : List X) (x : X) → find p xs ≡ Some x → find p (xs ++ ys) ≡ Some x
 find_first p [] ys x is = absurd (true≢false (sym (ap (λ o. elim o [ None ↦ false | Some y ↦ true ]) is)))
 find_first p (y ∷ xs) ys x is = first_on p y x xs ys (p y) (find_first p xs ys x) is
 
@@ -86,43 +86,47 @@ find_dropped : {X : Type 0} (p q : X → Bool) (xs : List X) → ((x : X) → p 
 find_dropped p q [] drops = refl
 find_dropped p q (x ∷ xs) drops = dropped_on p q x xs (p x) (q x) refl refl (drops x) (find_dropped p q xs drops)
 
--- ITEMS. The new item is found by its key
+-- ITEMS. The new item is found where a test passes it, and no item with another key
+pub new_found : {A : Type 0} (key : A → List ℕ) (p : A → Bool) (new : A) (items : List A) → p new ≡ true
+    → ((item : A) → p item ≡ true → key item ≡ key new) → find p (with_item key new items) ≡ Some new
+new_found key p new items pass keyed =
+    find_later p (filter (λ item. is_before (key item) (key new)) items) (new ∷ filter (λ item. is_before (key new) (key item)) items)
+    (find_dropped p (λ item. is_before (key item) (key new)) items
+    (λ item is. subst (λ k. is_before k (key new) ≡ false) (sym (keyed item is)) (not_before_itself (key new))))
+    ∙ ap (λ t. cond t (Some new) (find p (filter (λ item. is_before (key new) (key item)) items))) pass
+
 pub new_item : {A : Type 0} (key : A → List ℕ) (new : A) (items : List A) → item_at key (key new) (with_item key new items) ≡ Some new
 new_item key new items =
-    find_later (λ item. bytes_eq (key item) (key new)) (filter (λ item. is_before (key item) (key new)) items)
-    (new ∷ filter (λ item. is_before (key new) (key item)) items)
-    (find_dropped (λ item. bytes_eq (key item) (key new)) (λ item. is_before (key item) (key new)) items
-    (λ item same. subst (λ k. is_before k (key new) ≡ false) (sym (equal (key item) (key new) same)) (not_before_itself (key new))))
-    ∙ ap (λ t. cond t (Some new) (find (λ item. bytes_eq (key item) (key new)) (filter (λ item. is_before (key new) (key item)) items))) (itself (key new))
+    new_found key (λ item. bytes_eq (key item) (key new)) new items (itself (key new)) (λ item is. equal (key item) (key new) is)
 
--- and another as before
-other_by : {A : Type 0} (key : A → List ℕ) (new : A) (items : List A) (wanted : List ℕ) (found : Option A) → key new ≢ wanted → Side wanted (key new)
-    → item_at key wanted items ≡ found → item_at key wanted (with_item key new items) ≡ found
-other_by key new items wanted None isnt (before less more) is =
-    find_later (λ item. bytes_eq (key item) wanted) (filter (λ item. is_before (key item) (key new)) items)
-    (new ∷ filter (λ item. is_before (key new) (key item)) items)
-    (find_kept (λ item. bytes_eq (key item) wanted) (λ item. is_before (key item) (key new)) items
-    (λ item same. subst (λ k. is_before k (key new) ≡ true) (sym (equal (key item) wanted same)) less) ∙ is)
-    ∙ (ap (λ t. cond t (Some new) (find (λ item. bytes_eq (key item) wanted) (filter (λ item. is_before (key new) (key item)) items)))
-    (differs (key new) wanted isnt)
-    ∙ find_dropped (λ item. bytes_eq (key item) wanted) (λ item. is_before (key new) (key item)) items
-    (λ item same. subst (λ k. is_before (key new) k ≡ false) (sym (equal (key item) wanted same)) more))
-other_by key new items wanted (Some x) isnt (before less more) is =
-    find_first (λ item. bytes_eq (key item) wanted) (filter (λ item. is_before (key item) (key new)) items)
-    (new ∷ filter (λ item. is_before (key new) (key item)) items) x
-    (find_kept (λ item. bytes_eq (key item) wanted) (λ item. is_before (key item) (key new)) items
-    (λ item same. subst (λ k. is_before k (key new) ≡ true) (sym (equal (key item) wanted same)) less) ∙ is)
-other_by key new items wanted found isnt (after less more) is =
-    find_later (λ item. bytes_eq (key item) wanted) (filter (λ item. is_before (key item) (key new)) items)
-    (new ∷ filter (λ item. is_before (key new) (key item)) items)
-    (find_dropped (λ item. bytes_eq (key item) wanted) (λ item. is_before (key item) (key new)) items
-    (λ item same. subst (λ k. is_before k (key new) ≡ false) (sym (equal (key item) wanted same)) less))
-    ∙ (ap (λ t. cond t (Some new) (find (λ item. bytes_eq (key item) wanted) (filter (λ item. is_before (key new) (key item)) items)))
-    (differs (key new) wanted isnt)
-    ∙ (find_kept (λ item. bytes_eq (key item) wanted) (λ item. is_before (key new) (key item)) items
-    (λ item same. subst (λ k. is_before (key new) k ≡ true) (sym (equal (key item) wanted same)) more) ∙ is))
+-- and another is found as before, where a test passes those of another key alone
+other_by : {A : Type 0} (key : A → List ℕ) (p : A → Bool) (new : A) (items : List A) (wanted : List ℕ) (found : Option A) → p new ≡ false
+    → ((item : A) → p item ≡ true → key item ≡ wanted) → Side wanted (key new) → find p items ≡ found → find p (with_item key new items) ≡ found
+other_by key p new items wanted None isnt keyed (before less more) is =
+    find_later p (filter (λ item. is_before (key item) (key new)) items) (new ∷ filter (λ item. is_before (key new) (key item)) items)
+    (find_kept p (λ item. is_before (key item) (key new)) items
+    (λ item pass. subst (λ k. is_before k (key new) ≡ true) (sym (keyed item pass)) less) ∙ is)
+    ∙ (ap (λ t. cond t (Some new) (find p (filter (λ item. is_before (key new) (key item)) items))) isnt
+    ∙ find_dropped p (λ item. is_before (key new) (key item)) items
+    (λ item pass. subst (λ k. is_before (key new) k ≡ false) (sym (keyed item pass)) more))
+other_by key p new items wanted (Some x) isnt keyed (before less more) is =
+    find_first p (filter (λ item. is_before (key item) (key new)) items) (new ∷ filter (λ item. is_before (key new) (key item)) items) x
+    (find_kept p (λ item. is_before (key item) (key new)) items
+    (λ item pass. subst (λ k. is_before k (key new) ≡ true) (sym (keyed item pass)) less) ∙ is)
+other_by key p new items wanted found isnt keyed (after less more) is =
+    find_later p (filter (λ item. is_before (key item) (key new)) items) (new ∷ filter (λ item. is_before (key new) (key item)) items)
+    (find_dropped p (λ item. is_before (key item) (key new)) items
+    (λ item pass. subst (λ k. is_before k (key new) ≡ false) (sym (keyed item pass)) less))
+    ∙ (ap (λ t. cond t (Some new) (find p (filter (λ item. is_before (key new) (key item)) items))) isnt
+    ∙ (find_kept p (λ item. is_before (key new) (key item)) items
+    (λ item pass. subst (λ k. is_before (key new) k ≡ true) (sym (keyed item pass)) more) ∙ is))
+
+pub other_found : {A : Type 0} (key : A → List ℕ) (p : A → Bool) (new : A) (items : List A) (wanted : List ℕ) → key new ≢ wanted → p new ≡ false
+    → ((item : A) → p item ≡ true → key item ≡ wanted) → find p (with_item key new items) ≡ find p items
+other_found key p new items wanted isnt fails keyed =
+    other_by key p new items wanted (find p items) fails keyed (side wanted (key new) (λ same. isnt (sym same))) refl
 
 pub other_item : {A : Type 0} (key : A → List ℕ) (new : A) (items : List A) (wanted : List ℕ) → key new ≢ wanted
     → item_at key wanted (with_item key new items) ≡ item_at key wanted items
 other_item key new items wanted isnt =
-    other_by key new items wanted (item_at key wanted items) isnt (side wanted (key new) (λ same. isnt (sym same))) refl
+    other_found key (λ item. bytes_eq (key item) wanted) new items wanted isnt (differs (key new) wanted isnt) (λ item is. equal (key item) wanted is)

@@ -116,7 +116,7 @@ After last batch = last < batch.id
 abbrev Within : ℕ → Ack → Type 0
 Within last ack = ack.batch ≤ last
 
-numbered_after : (last first n : ℕ) (batches : List OutBatch) → last < first → map (λ (b : OutBatch). b.id) batches ≡ range_with_len first n → All (After last) batches
+pub numbered_after : (last first n : ℕ) (batches : List OutBatch) → last < first → map (λ (b : OutBatch). b.id) batches ≡ range_with_len first n → All (After last) batches
 numbered_after last first n [] less same = All-nil (After last)
 numbered_after last first zero (batch ∷ batches) less same = absurd (true≢false (ap (λ l. elim l [ [] ↦ false | k ∷ ks ↦ true ]) same))
 numbered_after last first (suc n) (batch ∷ batches) less same =
@@ -451,9 +451,9 @@ named_within (batch ∷ batches) from ack last within is =
     first_of false b both = both
 
 -- what holds of a history whose acts are made by calls
-record Numbered (config : Config) (history : History) : Type 0 where
-  opening : IdsWithin history.opening
-  acks : AcksWithin (state_of config history).counts.last_batch history.acts
+pub record Numbered (config : Config) (history : History) : Type 0 where
+  pub opening : IdsWithin history.opening
+  pub acks : AcksWithin (state_of config history).counts.last_batch history.acts
 
 last_rises : (config : Config) (history : History) (act : Act)
     → (state_of config history).counts.last_batch ≤ (state_of config (with_act history act)).counts.last_batch
@@ -504,7 +504,7 @@ numbered_on config history call None is before = before
 numbered_on config history call (Some act) is before =
     numbered_more config history act (made_follows config (state_of config history) call act is) before
 
-all_numbered : (config : Config) (opening : State) (calls : List Call) → IdsWithin opening
+pub all_numbered : (config : Config) (opening : State) (calls : List Call) → IdsWithin opening
     → Numbered config (called_all config (reopened opening) calls)
 all_numbered config opening [] within = record { opening = within; acks = λ peer. All-nil (Within (opening.counts.last_batch + 0)) }
 all_numbered config opening (call ∷ older) within =
@@ -517,7 +517,7 @@ steps_on : (config : Config) (history : History) (made : Option Act) → Numbere
 steps_on config history None numbered = refl
 steps_on config history (Some act) numbered = one_act config history act numbered.acks
 
-none_made : (me : Peer) → IdsWithin (begun me).opening
+pub none_made : (me : Peer) → IdsWithin (begun me).opening
 none_made me = All-nil (λ (id : ℕ). id ≤ 0)
 
 pub calls_step_on : CallsStepOn

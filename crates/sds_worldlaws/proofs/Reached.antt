@@ -89,7 +89,7 @@ put_on config new node false first second = second
 mapped : {X : Type 0} (P Q : X → Type 0) (xs : List X) → ((x : X) → P x → Q x) → All P xs → All Q xs
 mapped P Q xs each are k d within = each _ (are k d within)
 
-put : (config : Config) (world : World) (new : Node) → AllReached config world → Reached config new → AllReached config (with_node world new)
+pub put : (config : Config) (world : World) (new : Node) → AllReached config world → Reached config new → AllReached config (with_node world new)
 put config world new are is =
     All-map (Reached config) (one_for new) world.nodes
     (mapped (Reached config) (λ node. Reached config (one_for new node)) world.nodes (λ node before. put_on config new node (has_id (me_of new).id node) is before) are)
