@@ -44,10 +44,10 @@ Follows state (Acked from acks) = All (Names state from) acks
 Follows state act = Unit {0}
 
 -- OPTIONS
-nothing : {G : Type 0} (act : Act) → None ≡ Some act → G
+pub nothing : {G : Type 0} (act : Act) → None ≡ Some act → G
 nothing act is = absurd (true≢false (sym (ap (λ o. elim o [ None ↦ false | Some a ↦ true ]) is)))
 
-same_act : (a b : Act) → Some a ≡ Some b → a ≡ b
+pub same_act : (a b : Act) → Some a ≡ Some b → a ≡ b
 same_act a b is = ap (λ o. elim o [ None ↦ a | Some c ↦ c ]) is
 
 -- an act that isn't made where a counter would pass its end
@@ -55,7 +55,7 @@ within_on : (made : Option Act) (act : Act) (b : Bool) → cond b None made ≡ 
 within_on made act true is = nothing act is
 within_on made act false is = is
 
-was_within : (config : Config) (state : State) (made : Option Act) (act : Act) → within config state made ≡ Some act → made ≡ Some act
+pub was_within : (config : Config) (state : State) (made : Option Act) (act : Act) → within config state made ≡ Some act → made ≡ Some act
 was_within config state made act is = within_on made act (would_pass config state made) is
 
 if_on : (state : State) (plain act : Act) (b : Bool) → Follows state plain → act_if b plain ≡ Some act → Follows state act

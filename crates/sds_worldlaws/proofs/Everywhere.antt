@@ -21,7 +21,7 @@ counts_at : (config : Config) (node : Node) (writer : List ℕ) → Reached conf
 counts_at config node writer is =
     subst (λ h. NumbersCount (record node { history = h }) writer) (sym is.same) (writers_count config is.me is.calls writer)
 
-writes_at : (config : Config) (node : Node) → Reached config node → WritesCount config node
+pub writes_at : (config : Config) (node : Node) → Reached config node → WritesCount config node
 writes_at config node is k d within = counts_at config node _ is
 
 pub writes_count_everywhere : WritesCountEverywhere
@@ -44,7 +44,7 @@ begun_so config me opening acts faults sound same =
     subst (λ o. RoutedOnce config (record { history = record { opening = o; acts = acts }; faults = faults })) (sym same)
     (routed_in_one_batch config sound me acts faults)
 
-routed_at : (config : Config) (node : Node) → IsSound config → Reached config node → RoutedOnce config node
+pub routed_at : (config : Config) (node : Node) → IsSound config → Reached config node → RoutedOnce config node
 routed_at config node sound is =
     begun_so config is.me node.history.opening node.history.acts node.faults sound (ap (λ (h : History). h.opening) is.same ∙ opening_of config is.me is.calls)
 

@@ -470,7 +470,7 @@ by_acks config from to mine acts peer acks channel sound node before =
         (filter (is_error_of batch) (acks_in batch.peer (Acked peer acks) ++ [])) batch.standing acked)
 
 -- THE RECEIVER'S ACTS. Where a peer isn't kept nothing was loaded of it
-none_loaded : (config : Config) (to : State) (from : List ℕ) (channel : ℕ) (acts : List Act) → is_some (kept_peer to.peers from) ≡ false
+pub none_loaded : (config : Config) (to : State) (from : List ℕ) (channel : ℕ) (acts : List Act) → is_some (kept_peer to.peers from) ≡ false
     → All (Came config to) acts → loads_of from channel acts ≡ []
 none_loaded config to from channel [] none came = refl
 none_loaded config to from channel (act ∷ acts) none came =

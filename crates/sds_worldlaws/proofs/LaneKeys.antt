@@ -59,7 +59,7 @@ name_text text is =
     (and_right (nat_le 1 (length text)) (nat_le (length text) 50 && list_all is_name_character text) is))
 
 -- CHANNELS, by their places
-abbrev name_in : List ChannelDef → ℕ → List ℕ
+abbrev pub name_in : List ChannelDef → ℕ → List ℕ
 name_in channels place = option_map_or (λ (def : ChannelDef). def.id) (slice_get channels place) []
 
 at_place : (P : List ℕ → Type 0) (channels : List ChannelDef) (place : ℕ) → All (λ (c : ChannelDef). P c.id) channels → place < length channels
@@ -69,7 +69,7 @@ at_place P (channel ∷ channels) zero are less = all_head (λ (c : ChannelDef).
 at_place P (channel ∷ channels) (suc place) are less =
     at_place P channels place (all_tail (λ (c : ChannelDef). P c.id) channel channels are) (omega (arith, less))
 
-one_place : (channels : List ChannelDef) (a b : ℕ) → AllPairs (λ (c d : ChannelDef). c.id ≢ d.id) channels → a < length channels → b < length channels
+pub one_place : (channels : List ChannelDef) (a b : ℕ) → AllPairs (λ (c d : ChannelDef). c.id ≢ d.id) channels → a < length channels → b < length channels
     → name_in channels a ≡ name_in channels b → a ≡ b
 one_place [] a b apart first second same = absurd (omega (arith, first))
 one_place (channel ∷ channels) zero zero apart first second same = refl

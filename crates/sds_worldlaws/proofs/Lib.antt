@@ -6,4 +6,11 @@ pub mod DeliverOrders
 pub mod Reached
 pub mod WorldFacts
 pub mod WorldSteps
+pub mod CallActs
+pub mod WorldNodes
+pub mod CallSteps
+pub mod Ready
+pub mod Deliveries
+pub mod Happens
 pub mod Everywhere
+pub mod Whole

@@ -1,7 +1,7 @@
 -- Lists and tests: small lemmas that the laws of worlds need.
 use Rattle.std.proofs.Common.{◌≡◌, ◌≢◌, ℕ, zero, suc, ◌+◌, ◌<◌, ◌≤◌, Bool, true, false, cond, List, [], ◌∷◌, ◌++◌, length, map, Option, None, Some, refl, sym, ap, subst, ◌∙◌, arith, true≢false, filter, filter_map, find, ◌||◌, ◌&&◌, ◌==◌, All, AllPairs}
 use Rattle.std.specs.List.{cons_option, enumerate_from, flat_map, list_any, range_with_len}
-use Rattle.std.specs.Prelude.{nat_le, nat_lt}
+use Rattle.std.specs.Prelude.{nat_le, nat_lt, slice_get}
 use Rattle.std.proofs.lemmas.Bool.Decides.{nat_tests}
 use Rattle.std.proofs.lemmas.List.Concat.{flat_map-cons}
 use Rattle.std.proofs.lemmas.List.Elements.{All-nil, All-cons, All-append}
@@ -222,3 +222,9 @@ ascending_filter number p (x ∷ xs) are = kept_on (p x) (ascending_filter numbe
     kept_on : (b : Bool) → Ascending number (filter p xs) → Ascending number (cond b (x ∷ filter p xs) (filter p xs))
     kept_on true rest = (filter_all (λ y. number x < number y) p xs are.0, rest)
     kept_on false rest = rest
+
+-- what stands at a place
+pub slice_all : {X : Type 0} (P : X → Type 0) (xs : List X) (place : ℕ) (x : X) → All P xs → slice_get xs place ≡ Some x → P x
+slice_all P [] place x are is = no_some x is
+slice_all P (y ∷ ys) zero x are is = subst P (same_some y x is) (all_head P y ys are)
+slice_all P (y ∷ ys) (suc place) x are is = slice_all P ys place x (all_tail P y ys are) is

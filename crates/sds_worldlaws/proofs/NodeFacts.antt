@@ -144,7 +144,7 @@ batches_after config state act none = unsaid (state.batches ++ added config stat
 abbrev Made : ℕ → ℕ → NewBatch → Type 0
 Made peers last batch = (batch.peer < peers) × All (λ (n : ℕ). n ≤ last) batch.changes
 
-abbrev CutOk : ℕ → Change → Type 0
+abbrev pub CutOk : ℕ → Change → Type 0
 CutOk last change = change.id ≤ last
 
 pieces_ok : (peers last channel peer : ℕ) (pieces : List (List Change)) → peer < peers → All (CutOk last) (changes_in pieces)

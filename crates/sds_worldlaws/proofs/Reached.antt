@@ -51,7 +51,7 @@ abbrev pub AllReached : Config → World → Type 0
 AllReached config world = All (Reached config) world.nodes
 
 -- CALLS. The act of a call, if it stands, is one more call
-made_more : (config : Config) (node : Node) (call : Call) (act : Act) (faults : List Bool) → act_of config (state_in config node) call ≡ Some act
+pub made_more : (config : Config) (node : Node) (call : Call) (act : Act) (faults : List Bool) → act_of config (state_in config node) call ≡ Some act
     → Reached config node → Reached config (record { history = with_act node.history act; faults = faults })
 made_more config node call act faults is before = record {
   me = before.me;
@@ -59,7 +59,7 @@ made_more config node call act faults is before = record {
   same = sym (ap (with_made node.history) is) ∙ ap (λ h. called config h call) before.same;
 }
 
-same_history : (config : Config) (node : Node) (faults : List Bool) → Reached config node → Reached config (record { history = node.history; faults = faults })
+pub same_history : (config : Config) (node : Node) (faults : List Bool) → Reached config node → Reached config (record { history = node.history; faults = faults })
 same_history config node faults before = record { me = before.me; calls = before.calls; same = before.same }
 
 stands_on : (config : Config) (node : Node) (call : Call) (act : Act) (stands : Bool) (faults : List Bool) → act_of config (state_in config node) call ≡ Some act
@@ -317,7 +317,7 @@ pulled_on config world to from (Some node) are =
     if_on config (may_exchange (has_pull config) (state_in config node) to) world from to node (NoPull to from) are
 
 -- ALL
-new_on : (config : Config) (me : Peer) → Reached config (new_node me)
+pub new_on : (config : Config) (me : Peer) → Reached config (new_node me)
 new_on config me = record { me = me; calls = []; same = refl }
 
 one_event : (config : Config) (noise : List ℕ) (world : World) (e : WorldEvent) → AllReached config world → Keeps config (happened config noise world e)

@@ -159,7 +159,7 @@ receiver_lane config world facts id other from to (Acked peer acks) acts channel
     by_receiver config (state_in config from) to acts (Acked peer acks) channel suits refl refl node before
 
 -- the highest of no lane falls
-same_most : (n : ℕ) → n ≤ n
+pub same_most : (n : ℕ) → n ≤ n
 same_most n = omega arith
 
 below : (a b : ℕ) → a < b → a ≤ b
@@ -214,7 +214,7 @@ error_rises config world id other from to peer place channel error sound within 
     (sym (other_error config to.lanes peer place error (state_in config from).me.id channel sound fits.within within (λ p c. isnt (p ∙ me) c)))
     (same_most (kept_of (state_in config from) to channel).highest)
 
-highest_rises : (config : Config) (world : World) (id other : List ℕ) (from : Node) (to : State) (act : Act) (channel : ℕ) → IsSound config
+pub highest_rises : (config : Config) (world : World) (id other : List ℕ) (from : Node) (to : State) (act : Act) (channel : ℕ) → IsSound config
     → channel < length config.channels → node_at world other ≡ Some from → (state_in config from).me.id ≡ other → Fits config world id to act
     → (kept_of (state_in config from) to channel).highest ≤ (kept_of (state_in config from) (state_after config to act) channel).highest
 highest_rises config world id other from to (Loaded place new) channel sound within is me fits =
@@ -235,16 +235,16 @@ pub record Step (config : Config) (world : World) (id : List ℕ) (node : Node) 
   pub fits : Fits config world id (state_in config node) act
 
 -- two nodes after the act: their lane has grown
-record Grown (config : Config) (now : World) (a b : List ℕ) (from to : Node) : Type 0 where
-  first : Node
-  second : Node
-  is_first : node_at now a ≡ Some first
-  is_second : node_at now b ≡ Some second
-  grows : AllGrows config (state_in config from) (state_in config to) (state_in config first) (state_in config second)
-  stays : (number : ℕ) → list_any (λ (batch : OutBatch). batch.id == number && bytes_eq batch.peer (state_in config to).me.id) (state_in config from).batches ≡ true
+pub record Grown (config : Config) (now : World) (a b : List ℕ) (from to : Node) : Type 0 where
+  pub first : Node
+  pub second : Node
+  pub is_first : node_at now a ≡ Some first
+  pub is_second : node_at now b ≡ Some second
+  pub grows : AllGrows config (state_in config from) (state_in config to) (state_in config first) (state_in config second)
+  pub stays : (number : ℕ) → list_any (λ (batch : OutBatch). batch.id == number && bytes_eq batch.peer (state_in config to).me.id) (state_in config from).batches ≡ true
       → list_any (λ (batch : OutBatch). batch.id == number && bytes_eq batch.peer (state_in config second).me.id) (state_in config first).batches ≡ true
 
-same_grows : (config : Config) (from to : State) → AllGrows config from to from to
+pub same_grows : (config : Config) (from to : State) → AllGrows config from to from to
 same_grows config from to channel within = record {
   extra = [];
   ids = sym (append-nil (map (λ (b : OutBatch). b.id) (made from to channel)));
@@ -298,7 +298,7 @@ grown config world facts id node act faults sound step reached a b from to is_fr
       stays = λ number was. was;
     }
 
-message_stays : (config : Config) (world now : World) (message : Message) (ok : MessageOk config world message)
+pub message_stays : (config : Config) (world now : World) (message : Message) (ok : MessageOk config world message)
     → Grown config now message.from message.to ok.from ok.to → MessageOk config now message
 message_stays config world now message ok grown = record {
   from = grown.first;
@@ -310,7 +310,7 @@ message_stays config world now message ok grown = record {
       (λ part is. part_grows config (state_in config ok.from) (state_in config ok.to) (state_in config grown.first) (state_in config grown.second) part grown.grows is) ok.parts;
 }
 
-reply_stays : (config : Config) (world now : World) (reply : Reply) (ok : ReplyOk config world reply)
+pub reply_stays : (config : Config) (world now : World) (reply : Reply) (ok : ReplyOk config world reply)
     → Grown config now reply.to reply.from ok.sender ok.receiver → ReplyOk config now reply
 reply_stays config world now reply ok grown = record {
   sender = grown.first;

@@ -1,5 +1,6 @@
 //! Laws of every world.
 ghost use Rattle.sds_worldlaws.specs.Nodes.{RoutedOnceEverywhere, WritesCountEverywhere};
+ghost use Rattle.sds_worldlaws.specs.Stepping.{WorldsStayInStep};
 
 /// After any list of events the writes that each node made of each writer are numbered 1, 2, 3 and
 /// so on: none is lost, and none is made twice.
@@ -11,4 +12,15 @@ pub fn writes_count_everywhere()
 /// exactly one batch to each peer that the routers named for it at that run, and in no other.
 pub fn changes_are_routed_once_everywhere()
     ensures once { RoutedOnceEverywhere }
+{}
+
+/// Nothing is lost and nothing is applied twice. Under a sound configuration, after any list of
+/// events, whatever was lost, repeated, reordered or met a fault: what each node loaded of another
+/// in a channel are the first batches that the other made for it, each once and in their order, with
+/// the rows as the transforms give them; no more is acknowledged than is loaded; every part of every
+/// message lies in what was made and begins at most after what is loaded; every acknowledgement
+/// tells of a batch that is loaded, and every error of one that was made; and a lane's error is at
+/// the batch after what is loaded. Each new node has an id of its own.
+pub fn worlds_stay_in_step()
+    ensures step { WorldsStayInStep }
 {}
