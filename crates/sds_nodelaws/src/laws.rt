@@ -34,8 +34,8 @@ pub fn ok_is_final()
     ensures stays { OkIsFinal }
 {}
 
-/// Whatever is asked of a node that began, the writes that it made of each writer are numbered 1, 2,
-/// 3 and so on, each once; and what it keeps of a writer is the number of its last write.
+/// Whatever is asked of a node that began, the writes that it made of each writer are numbered 1,
+/// 2, 3 and so on, each once; and what it keeps of a writer is the number of its last write.
 pub fn writers_count()
     ensures count { WritersCount }
     ensures last { LastIsKept }
@@ -47,8 +47,8 @@ pub fn changes_are_routed_once()
     ensures once { RoutedInOneBatch }
 {}
 
-/// What a node has after a call follows from what it had before and the call's act alone; and a node
-/// that is opened again with what it has goes on as if it had never been closed.
+/// What a node has after a call follows from what it had before and the call's act alone; and a
+/// node that is opened again with what it has goes on as if it had never been closed.
 pub fn histories_splice()
     ensures step { CallsStepOn }
     ensures splice { HistoriesSplice }

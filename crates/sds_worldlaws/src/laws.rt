@@ -16,11 +16,11 @@ pub fn changes_are_routed_once_everywhere()
 
 /// Nothing is lost and nothing is applied twice. Under a sound configuration, after any list of
 /// events, whatever was lost, repeated, reordered or met a fault: what each node loaded of another
-/// in a channel are the first batches that the other made for it, each once and in their order, with
-/// the rows as the transforms give them; no more is acknowledged than is loaded; every part of every
-/// message lies in what was made and begins at most after what is loaded; every acknowledgement
-/// tells of a batch that is loaded, and every error of one that was made; and a lane's error is at
-/// the batch after what is loaded. Each new node has an id of its own.
+/// in a channel are the first batches that the other made for it, each once and in their order,
+/// with the rows as the transforms give them; no more is acknowledged than is loaded; every part of
+/// every message lies in what was made and begins at most after what is loaded; every
+/// acknowledgement tells of a batch that is loaded, and every error of one that was made; and a
+/// lane's error is at the batch after what is loaded. Each new node has an id of its own.
 pub fn worlds_stay_in_step()
     ensures step { WorldsStayInStep }
 {}

@@ -1,6 +1,6 @@
-//! What holds of every world: any number of nodes under one configuration, after any list of events,
-//! whatever is lost, repeated, reordered or meets a fault. Each law is the contract of a function
-//! without a body.
+//! What holds of every world: any number of nodes under one configuration, after any list of
+//! events, whatever is lost, repeated, reordered or meets a fault. Each law is the contract of a
+//! function without a body.
 #![tactic(auto)]
 
 mod laws;
