@@ -225,7 +225,7 @@ made_by config opening (Loaded channel batch) older made same = same
 made_by config opening (Erred from channel error) older made same = same
 made_by config opening (Acked from acks) older made same = same
 
-made_ids : (config : Config) (opening : State) (runs : List Run)
+pub made_ids : (config : Config) (opening : State) (runs : List Run)
     → batch_ids (made_after config opening runs) ≡ range_with_len (opening.counts.last_batch + 1) (length (made_after config opening runs))
 made_ids config opening [] = refl
 made_ids config opening (run ∷ older) = made_by config opening run.act older (made_after config opening older) (made_ids config opening older)

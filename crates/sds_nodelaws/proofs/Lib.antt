@@ -10,3 +10,8 @@ pub mod Channels
 pub mod Routing
 pub mod Routes
 pub mod Splicing
+pub mod Lists
+pub mod CallActs
+pub mod NodeFacts
+pub mod Ending
+pub mod Acknowledged

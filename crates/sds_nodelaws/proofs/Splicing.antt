@@ -246,7 +246,7 @@ errors_split batch [] older before = refl
 errors_split batch (ack ∷ later) older before =
     errors_on batch ack (filter (is_error_of batch) later) older before (is_error_of batch ack) refl (errors_split batch later older before)
 
-not_ok : (acks : List Ack) (before : Standing) → is_acked before ≡ false → is_acked (last_error acks before) ≡ false
+pub not_ok : (acks : List Ack) (before : Standing) → is_acked before ≡ false → is_acked (last_error acks before) ≡ false
 not_ok [] before isnt = isnt
 not_ok (ack ∷ acks) before isnt = not_erred ack.error
   where

@@ -4,3 +4,5 @@ pub mod Calls
 pub mod Writers
 pub mod Routing
 pub mod Splicing
+pub mod Ending
+pub mod Acknowledged

@@ -1,6 +1,8 @@
 //! Laws of every history of a node.
+ghost use Rattle.sds_nodelaws.specs.Acknowledged.{AckedComeFirst};
 ghost use Rattle.sds_nodelaws.specs.Counters.{CountersNeverFall, MarkStaysWithin};
 ghost use Rattle.sds_nodelaws.specs.Counters.{ChangesCountOn, BatchesCountOn};
+ghost use Rattle.sds_nodelaws.specs.Ending.{AcceptedEndWell, TablesAreSteps};
 ghost use Rattle.sds_nodelaws.specs.Routing.{RoutedInOneBatch};
 ghost use Rattle.sds_nodelaws.specs.Splicing.{CallsStepOn, HistoriesSplice};
 ghost use Rattle.sds_nodelaws.specs.Standings.{OkIsFinal};
@@ -52,4 +54,18 @@ pub fn changes_are_routed_once()
 pub fn histories_splice()
     ensures step { CallsStepOn }
     ensures splice { HistoriesSplice }
+{}
+
+/// A node's tables are those that it began with, with the steps of its accepted writes and of its
+/// loaded batches made one after another, in the order of its commits; and no row of an accepted
+/// write or of a loaded batch broke a rule.
+pub fn tables_follow_steps()
+    ensures step { TablesAreSteps }
+    ensures well { AcceptedEndWell }
+{}
+
+/// Of the batches that a node made for a peer in a channel the first are acknowledged, and the
+/// others wait: a message begins with the first that isn't acknowledged.
+pub fn acknowledged_come_first()
+    ensures first { AckedComeFirst }
 {}

@@ -5,6 +5,7 @@
 mod laws;
 
 pub use laws::{
-    batches_count_on, changes_are_routed_once, changes_count_on, counters_never_fall,
-    histories_splice, mark_stays_within, ok_is_final, writers_count,
+    acknowledged_come_first, batches_count_on, changes_are_routed_once, changes_count_on,
+    counters_never_fall, histories_splice, mark_stays_within, ok_is_final, tables_follow_steps,
+    writers_count,
 };

@@ -15,10 +15,10 @@ use Rattle.sds_history.specs.world.Calling.{after_act, after_call}
 use Rattle.sds_history.specs.world.Worlds.{Node, World, has_id, me_of, node_at, state_in, with_node}
 use Rattle.sds_nodelaws.specs.Calls.{Call, act_of}
 use Rattle.sds_nodelaws.specs.Calls.Call.{Write, Route, Load, TakeAcks, Open, Register, Join, Confirm}
-use Rattle.sds_worldlaws.proofs.CallActs.{Joins, acks_is, confirm_is, join_is, open_is, register_is, route_is, write_is}
+use Rattle.sds_nodelaws.proofs.CallActs.{Joins, acks_is, confirm_is, join_is, open_is, register_is, route_is, write_is}
 use Rattle.sds_worldlaws.proofs.LaneFacts.{AckOk, kept_of, made}
-use Rattle.sds_worldlaws.proofs.Lists.{find_all}
-use Rattle.sds_worldlaws.proofs.NodeFacts.{Suits}
+use Rattle.sds_nodelaws.proofs.Lists.{find_all}
+use Rattle.sds_nodelaws.proofs.NodeFacts.{Suits}
 use Rattle.sds_worldlaws.proofs.Reached.{Reached, made_more}
 use Rattle.sds_worldlaws.proofs.WorldFacts.{AllGrows, Fits, WorldFacts, id_of_found}
 use Rattle.sds_worldlaws.proofs.WorldNodes.{faults_change, faulty}

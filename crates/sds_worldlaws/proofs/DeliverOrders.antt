@@ -10,7 +10,7 @@ use Rattle.sds_trade.proofs.Lists.{all_head, all_tail, passes}
 use Rattle.sds_history.specs.world.DeliverOrder.{deliver_order, in_channel, is_in_part, is_left, mentioned_batch, mentions, rank_of}
 use Rattle.sds_nodelaws.proofs.Held.{equal_itself, mapped}
 use Rattle.sds_nodelaws.proofs.Tests.{same_number}
-use Rattle.sds_worldlaws.proofs.Lists.{Ascending, ascending_filter, filter_none, from_le, from_not_le, in_all, is_le, is_lt_test, no_some, not_le, same_some}
+use Rattle.sds_nodelaws.proofs.Lists.{Ascending, ascending_filter, filter_none, from_le, from_not_le, in_all, is_le, is_lt_test, no_some, not_le, same_some}
 
 abbrev Placed : Type 0
 Placed = ℕ × OutBatch

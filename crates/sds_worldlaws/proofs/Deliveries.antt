@@ -44,13 +44,13 @@ use Rattle.sds_nodelaws.specs.Calls.Call.{Load}
 use Rattle.sds_nodelaws.proofs.Held.{all_of, equal_itself, mapped}
 use Rattle.sds_nodelaws.proofs.Items.{differs, equal, itself}
 use Rattle.sds_nodelaws.proofs.Tests.{other_number, same_number}
-use Rattle.sds_worldlaws.proofs.CallActs.{LoadMade, again_is, first_false, load_is}
+use Rattle.sds_nodelaws.proofs.CallActs.{LoadMade, again_is, first_false, load_is}
 use Rattle.sds_worldlaws.proofs.CallSteps.{Asked, call_grows, call_steps, me_stays, plain, reached_at}
 use Rattle.sds_worldlaws.proofs.LaneFacts.{AckOk, AckTells, IsNext, LoadedIn, found_lane, kept_of, made, read}
 use Rattle.sds_worldlaws.proofs.LaneKeys.{name_in, one_place}
-use Rattle.sds_worldlaws.proofs.Lists.{Either, In, all_in, and_both, and_right, any_true, filter_none, find_all, from_lt, from_not_lt, in_filter, is_lt_test, map_all, map_same, map_twice, no_some, same_some}
-use Rattle.sds_worldlaws.proofs.Lists.Either.{left, right}
-use Rattle.sds_worldlaws.proofs.NodeFacts.{Suits}
+use Rattle.sds_nodelaws.proofs.Lists.{Either, In, all_in, and_both, and_right, any_true, filter_none, find_all, from_lt, from_not_lt, in_filter, is_lt_test, map_all, map_same, map_twice, no_some, same_some, second_false}
+use Rattle.sds_nodelaws.proofs.Lists.Either.{left, right}
+use Rattle.sds_nodelaws.proofs.NodeFacts.{Suits}
 use Rattle.sds_worldlaws.proofs.Reached.{Reached}
 use Rattle.sds_worldlaws.proofs.Ready.{Ready, ready_on}
 use Rattle.sds_worldlaws.proofs.WorldFacts.{AllGrows, Fits, Grows, LoadsBatch, LoadsNext, WorldFacts, ack_on, at_other, at_same, id_of_found}
@@ -277,10 +277,6 @@ load_tells config node sender batch sound within reached =
     on (Ok (answer.Loaded place)) is false = loaded (answer.Loaded place) (λ highest less. less) node.faults
     on (Ok (answer.Ignored place)) is true = tt
     on (Ok (answer.Ignored place)) is false = loaded (answer.Ignored place) (λ highest less. less) node.faults
-
-second_false : (a b : Bool) → (a || b) ≡ false → b ≡ false
-second_false true b is = absurd (true≢false is)
-second_false false b is = is
 
 -- ONE BATCH
 abbrev after_load : Config → Node → Node → OutBatch → Node

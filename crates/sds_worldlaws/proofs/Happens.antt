@@ -55,7 +55,7 @@ use Rattle.sds_worldlaws.specs.Stepping.{AreNew, IsNew}
 use Rattle.sds_worldlaws.proofs.CallSteps.{Asked, acks_ask, call_steps, confirm_asks, join_asks, me_stays, open_asks, reached_at, register_asks, route_asks, write_asks}
 use Rattle.sds_worldlaws.proofs.Deliveries.{Course, Going, acks_all, going_all, put_twice, receiver_there, sender_there}
 use Rattle.sds_worldlaws.proofs.LaneFacts.{AckOk, AckedOk, LaneFacts, ids_ascend, kept_of, made, upto}
-use Rattle.sds_worldlaws.proofs.Lists.{filter_all, from_lt, is_le, map_all, no_some, same_some, slice_all}
+use Rattle.sds_nodelaws.proofs.Lists.{filter_all, from_lt, is_le, map_all, no_some, same_some, slice_all}
 use Rattle.sds_worldlaws.proofs.Ready.{Ready, order_range, order_ready}
 use Rattle.sds_worldlaws.proofs.Reached.{Reached}
 use Rattle.sds_worldlaws.proofs.WorldFacts.{MessageOk, PartOk, ReplyOk, WorldFacts, at_other, at_same, id_of_found}

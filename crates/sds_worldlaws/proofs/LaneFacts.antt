@@ -46,9 +46,9 @@ use Rattle.sds_nodelaws.proofs.Items.{differs, equal, find_first, find_later, it
 use Rattle.sds_nodelaws.proofs.Splicing.{numbered_after}
 use Rattle.sds_nodelaws.proofs.Tests.{at_most, or_cases, or_left, same_number}
 use Rattle.sds_worldlaws.proofs.LaneKeys.{one_lane}
-use Rattle.sds_worldlaws.proofs.Lists.{Ascending, Either, In, all_in, and_both, and_left, and_right, any_true, ascending_filter, ascending_range, filter_all, filter_map_same, filter_none, find_none, find_passes, from_le, from_not_le, in_all, in_filter, is_le, least_in_range, map_all, map_same, map_twice, most_in_range, no_some, not_le, same_some, unmap_all}
-use Rattle.sds_worldlaws.proofs.Lists.Either.{left, right}
-use Rattle.sds_worldlaws.proofs.NodeFacts.{Came, GoesOut, IsKept, IsUnsaid, NodeFacts, Suits, added, batches_after, kept_stays, last_batch_rises, last_change_rises}
+use Rattle.sds_nodelaws.proofs.Lists.{Ascending, Either, In, all_in, and_both, and_left, and_right, any_true, ascending_filter, ascending_range, filter_all, filter_map_same, filter_none, filter_through, find_none, find_passes, from_le, from_not_le, in_all, in_filter, is_le, least_in_range, map_all, map_same, map_twice, most_in_range, no_some, not_le, same_some, unmap_all}
+use Rattle.sds_nodelaws.proofs.Lists.Either.{left, right}
+use Rattle.sds_nodelaws.proofs.NodeFacts.{Came, GoesOut, IsKept, IsUnsaid, NodeFacts, Suits, added, batches_after, kept_stays, last_batch_rises, last_change_rises}
 
 -- A LANE from one node to another in a channel: what was made, what is kept of it, and a batch as it
 -- is read
@@ -390,17 +390,6 @@ acked_by batch false errors before is = left (acked_on (is_acked before) refl is
     acked_on : (b : Bool) → is_acked before ≡ b → is_acked (cond (b || false) standing.Acked (last_error errors before)) ≡ true → is_acked before ≡ true
     acked_on true acked told = acked
     acked_on false acked told = no_error_acks errors before told
-
-pub filter_through : (p : OutBatch → Bool) (f : OutBatch → OutBatch) (batches : List OutBatch) → ((batch : OutBatch) → p (f batch) ≡ p batch)
-    → filter p (map f batches) ≡ map f (filter p batches)
-filter_through p f [] same = refl
-filter_through p f (batch ∷ batches) same =
-    ap (λ b. cond b (f batch ∷ filter p (map f batches)) (filter p (map f batches))) (same batch)
-    ∙ (ap (λ bs. cond (p batch) (f batch ∷ bs) bs) (filter_through p f batches same) ∙ through_on (p batch))
-  where
-    through_on : (b : Bool) → cond b (f batch ∷ map f (filter p batches)) (map f (filter p batches)) ≡ map f (cond b (batch ∷ filter p batches) (filter p batches))
-    through_on true = refl
-    through_on false = refl
 
 told_next : (all : List OutBatch) (act : Act) (highest number : ℕ) (batches : List OutBatch) → IsNext highest batches number
     → IsNext highest (map (with_standing all (act ∷ [])) batches) number

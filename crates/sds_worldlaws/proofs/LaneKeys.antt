@@ -16,8 +16,8 @@ use Rattle.sds_batchtext.proofs.PlainLines.{encoded}
 use Rattle.sds_history.specs.history.Lanes.{channel_name}
 use Rattle.sds_history.specs.history.Orders.{pair_key}
 use Rattle.sds_nodelaws.proofs.Held.{mapped}
-use Rattle.sds_worldlaws.proofs.Lists.{Either, In, all_in, and_left, and_right, in_last}
-use Rattle.sds_worldlaws.proofs.Lists.Either.{left, right}
+use Rattle.sds_nodelaws.proofs.Lists.{Either, In, all_in, and_left, and_right, in_last}
+use Rattle.sds_nodelaws.proofs.Lists.Either.{left, right}
 
 -- SLASHES. The last one parts a key
 abbrev NoSlash : List ℕ → Type 0

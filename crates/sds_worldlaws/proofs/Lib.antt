@@ -1,12 +1,9 @@
-pub mod Lists
-pub mod NodeFacts
 pub mod LaneKeys
 pub mod LaneFacts
 pub mod DeliverOrders
 pub mod Reached
 pub mod WorldFacts
 pub mod WorldSteps
-pub mod CallActs
 pub mod WorldNodes
 pub mod CallSteps
 pub mod Ready

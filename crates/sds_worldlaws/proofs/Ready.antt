@@ -18,9 +18,9 @@ use Rattle.sds_nodelaws.proofs.Held.{equal_itself, first_all, last_all, mapped}
 use Rattle.sds_nodelaws.proofs.Tests.{at_most, same_number}
 use Rattle.sds_worldlaws.proofs.DeliverOrders.{channel_batches, order_keeps_channels, places_ascend}
 use Rattle.sds_worldlaws.proofs.LaneFacts.{IsNext, ids_ascend, kept_of, made, upto}
-use Rattle.sds_worldlaws.proofs.Lists.{Ascending, Either, In, all_flat, and_left, any_true, ascending_filter, filter_all, filter_none, from_le, from_not_le, in_last, not_le, slice_all}
-use Rattle.sds_worldlaws.proofs.Lists.Either.{left, right}
-use Rattle.sds_worldlaws.proofs.NodeFacts.{NodeFacts}
+use Rattle.sds_nodelaws.proofs.Lists.{Ascending, Either, In, all_flat, and_left, any_true, ascending_filter, filter_all, filter_none, from_le, from_not_le, in_last, not_le, slice_all}
+use Rattle.sds_nodelaws.proofs.Lists.Either.{left, right}
+use Rattle.sds_nodelaws.proofs.NodeFacts.{NodeFacts}
 use Rattle.sds_worldlaws.proofs.WorldFacts.{PartOk}
 
 -- each batch is one of the lane's, and from a highest on it is loaded or the next when its turn comes

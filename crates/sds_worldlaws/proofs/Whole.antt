@@ -39,9 +39,9 @@ use Rattle.sds_worldlaws.specs.Stepping.{AreNew, WorldsStayInStep}
 use Rattle.sds_worldlaws.proofs.Everywhere.{routed_at, writes_at}
 use Rattle.sds_worldlaws.proofs.Happens.{all_facts, fewer, places_within}
 use Rattle.sds_worldlaws.proofs.LaneFacts.{AckOk, AckTells, AckedOk, ErrorOk, IsNext, LaneFacts, LoadedIn, ids_ascend, kept_of, made, none_loaded, read, upto}
-use Rattle.sds_worldlaws.proofs.Lists.{Ascending, Either, all_flat, and_both, and_left, and_right, ascending_filter, filter_none, from_le, from_not_le, is_le, is_lt_test, map_all, not_le, same_some}
-use Rattle.sds_worldlaws.proofs.Lists.Either.{left, right}
-use Rattle.sds_worldlaws.proofs.NodeFacts.{Came, NodeFacts}
+use Rattle.sds_nodelaws.proofs.Lists.{Ascending, Either, all_flat, and_both, and_left, and_right, ascending_filter, filter_none, from_le, from_not_le, is_le, is_lt_test, map_all, not_le, same_some}
+use Rattle.sds_nodelaws.proofs.Lists.Either.{left, right}
+use Rattle.sds_nodelaws.proofs.NodeFacts.{Came, NodeFacts}
 use Rattle.sds_worldlaws.proofs.Reached.{Reached}
 use Rattle.sds_worldlaws.proofs.WorldFacts.{MessageOk, PartOk, ReplyOk, WorldFacts, id_of_found, one_or_apart}
 use Rattle.sds_worldlaws.proofs.WorldNodes.{no_lane, none_made_to}

@@ -29,10 +29,10 @@ use Rattle.sds_nodelaws.specs.Counters.{batch_ids}
 use Rattle.sds_nodelaws.proofs.Held.{any_map, mapped}
 use Rattle.sds_nodelaws.proofs.Items.{differs, equal, itself, other_item, new_item}
 use Rattle.sds_nodelaws.proofs.Tests.{at_most, or_left}
-use Rattle.sds_worldlaws.proofs.LaneFacts.{AckOk, AckTells, IsNext, LaneFacts, LoadedIn, by_acks, by_error, by_load, by_other_error, by_other_load, by_receiver, by_sender, filter_through, kept_of, made, read, upto}
-use Rattle.sds_worldlaws.proofs.Lists.{Either, In, find_passes, from_le, from_not_le, map_all, map_twice, no_some, same_some}
-use Rattle.sds_worldlaws.proofs.Lists.Either.{left, right}
-use Rattle.sds_worldlaws.proofs.NodeFacts.{IsKept, IsUnsaid, NodeFacts, Suits, added, facts_stay}
+use Rattle.sds_worldlaws.proofs.LaneFacts.{AckOk, AckTells, IsNext, LaneFacts, LoadedIn, by_acks, by_error, by_load, by_other_error, by_other_load, by_receiver, by_sender, kept_of, made, read, upto}
+use Rattle.sds_nodelaws.proofs.Lists.{Either, In, filter_through, find_passes, from_le, from_not_le, map_all, map_twice, no_some, same_some}
+use Rattle.sds_nodelaws.proofs.Lists.Either.{left, right}
+use Rattle.sds_nodelaws.proofs.NodeFacts.{IsKept, IsUnsaid, NodeFacts, Suits, added, facts_stay}
 use Rattle.sds_worldlaws.proofs.Reached.{AllReached, Reached, put}
 
 -- NODES. The node of an id after one was put in the place of that of its id

@@ -19,9 +19,9 @@ use Rattle.sds_history.specs.world.Worlds.{Node, World, has_id, me_of, new_node,
 use Rattle.sds_nodelaws.proofs.Held.{mapped}
 use Rattle.sds_nodelaws.proofs.Items.{equal, find_first, find_later, itself}
 use Rattle.sds_worldlaws.proofs.LaneFacts.{AckedOk, ErrorOk, LaneFacts, kept_of, made, none_loaded, read, upto}
-use Rattle.sds_worldlaws.proofs.Lists.{Either, and_right, filter_none, find_all, find_passes, map_all, no_some, same_some}
-use Rattle.sds_worldlaws.proofs.Lists.Either.{left, right}
-use Rattle.sds_worldlaws.proofs.NodeFacts.{Came, CutOk, GoesOut, IsKept, NodeFacts}
+use Rattle.sds_nodelaws.proofs.Lists.{Either, and_right, filter_none, find_all, find_passes, map_all, no_some, same_some}
+use Rattle.sds_nodelaws.proofs.Lists.Either.{left, right}
+use Rattle.sds_nodelaws.proofs.NodeFacts.{Came, CutOk, GoesOut, IsKept, NodeFacts}
 use Rattle.sds_worldlaws.proofs.Reached.{AllReached, Reached, new_on, put, same_history}
 use Rattle.sds_worldlaws.proofs.WorldFacts.{AllGrows, MessageOk, ReplyOk, Which, WorldFacts, at_other, at_same, id_of_found, one_or_apart, still_there, which}
 use Rattle.sds_worldlaws.proofs.WorldFacts.Which.{this, that}

@@ -29,9 +29,9 @@ use Rattle.sds_nodelaws.proofs.Items.{equal, itself, other_item}
 use Rattle.sds_nodelaws.proofs.Splicing.{AcksWithin, all_numbered, none_made, one_act}
 use Rattle.sds_nodelaws.proofs.Tests.{same_number}
 use Rattle.sds_worldlaws.proofs.LaneFacts.{AckOk, IsNext, LaneFacts, by_acks, by_error, by_load, by_other_error, by_other_load, by_receiver, by_sender, found_error, found_lane, kept_of, made, other_error, other_lane, read}
-use Rattle.sds_worldlaws.proofs.Lists.{Either, In, map_all, same_some}
-use Rattle.sds_worldlaws.proofs.Lists.Either.{left, right}
-use Rattle.sds_worldlaws.proofs.NodeFacts.{IsKept, NodeFacts, Suits, facts_stay}
+use Rattle.sds_nodelaws.proofs.Lists.{Either, In, map_all, same_some}
+use Rattle.sds_nodelaws.proofs.Lists.Either.{left, right}
+use Rattle.sds_nodelaws.proofs.NodeFacts.{IsKept, NodeFacts, Suits, facts_stay}
 use Rattle.sds_worldlaws.proofs.Reached.{AllReached, Reached, put}
 use Rattle.sds_worldlaws.proofs.WorldFacts.{AllGrows, Fits, Grows, LoadsBatch, LoadsNext, MessageOk, PartOk, ReplyOk, Which, WorldFacts, ack_on, at_other, at_same, id_of_found, made_stays, one_or_apart, part_grows, receiver_grows, sender_grows, still_there, which}
 use Rattle.sds_worldlaws.proofs.WorldFacts.Which.{this, that}

@@ -44,9 +44,9 @@ use Rattle.sds_history.specs.history.Routes.{route_act}
 use Rattle.sds_history.specs.history.Writes.{own_answer, waiting_in, write_act, write_by}
 use Rattle.sds_nodelaws.proofs.Items.{itself}
 use Rattle.sds_nodelaws.proofs.Made.{nothing, same_act, was_within}
-use Rattle.sds_worldlaws.proofs.Lists.{Either, from_le, from_not_le, no_some}
-use Rattle.sds_worldlaws.proofs.Lists.Either.{left, right}
-use Rattle.sds_worldlaws.proofs.NodeFacts.{IsKept, Suits}
+use Rattle.sds_nodelaws.proofs.Lists.{Either, from_le, from_not_le, no_some}
+use Rattle.sds_nodelaws.proofs.Lists.Either.{left, right}
+use Rattle.sds_nodelaws.proofs.NodeFacts.{IsKept, Suits}
 
 -- PLAIN ACTS
 if_is : (plain act : Act) (b : Bool) → act_if b plain ≡ Some act → act ≡ plain

@@ -42,8 +42,8 @@ use Rattle.sds_nodelaws.proofs.Counted.{batches_count_on, changes_count_on, rang
 use Rattle.sds_nodelaws.proofs.Held.{all_of, first_all, last_all, mapped}
 use Rattle.sds_nodelaws.proofs.Items.{itself, new_item, other_item}
 use Rattle.sds_nodelaws.proofs.Tests.{at_most, same_number}
-use Rattle.sds_worldlaws.proofs.Lists.{Either, In, all_flat, filter_all, filter_none, find_all, from_lt, from_not_lt, in_all, map_all, most_in_range, no_some, unmap_all}
-use Rattle.sds_worldlaws.proofs.Lists.Either.{left, right}
+use Rattle.sds_nodelaws.proofs.Lists.{Either, In, all_flat, filter_all, filter_none, find_all, from_lt, from_not_lt, in_all, map_all, most_in_range, no_some, unmap_all}
+use Rattle.sds_nodelaws.proofs.Lists.Either.{left, right}
 
 -- PEERS. Some peer is kept of an id
 abbrev pub IsKept : List KeptPeer → List ℕ → Type 0

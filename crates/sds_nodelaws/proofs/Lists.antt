@@ -14,6 +14,10 @@ pub data Either (A B : Type 0) : Type 0 where
   right : B → Either A B
 
 -- TESTS
+pub second_false : (a b : Bool) → (a || b) ≡ false → b ≡ false
+second_false true b is = absurd (true≢false is)
+second_false false b is = is
+
 pub and_left : (a b : Bool) → (a && b) ≡ true → a ≡ true
 and_left true b both = refl
 and_left false b both = both
@@ -105,6 +109,16 @@ map_same f g (x ∷ xs) same =
 pub map_twice : {X Y Z : Type 0} (f : Y → Z) (g : X → Y) (xs : List X) → map f (map g xs) ≡ map (λ x. f (g x)) xs
 map_twice f g [] = refl
 map_twice f g (x ∷ xs) = ap (λ ys. f (g x) ∷ ys) (map_twice f g xs)
+
+pub filter_through : {X : Type 0} (p : X → Bool) (f : X → X) (xs : List X) → ((x : X) → p (f x) ≡ p x) → filter p (map f xs) ≡ map f (filter p xs)
+filter_through p f [] same = refl
+filter_through p f (x ∷ xs) same =
+    ap (λ b. cond b (f x ∷ filter p (map f xs)) (filter p (map f xs))) (same x)
+    ∙ (ap (λ ys. cond (p x) (f x ∷ ys) ys) (filter_through p f xs same) ∙ through_on (p x))
+  where
+    through_on : (b : Bool) → cond b (f x ∷ map f (filter p xs)) (map f (filter p xs)) ≡ map f (cond b (x ∷ filter p xs) (filter p xs))
+    through_on true = refl
+    through_on false = refl
 
 pub filter_all : {X : Type 0} (P : X → Type 0) (p : X → Bool) (xs : List X) → All P xs → All P (filter p xs)
 filter_all P p [] are = are
