@@ -1,15 +1,13 @@
 -- Of the batches of a lane the first are acknowledged.
 use Rattle.std.proofs.Common.{◌≡◌, ℕ, ◌<◌, ◌≤◌, ◌+◌, Bool, true, false, cond, List, [], ◌∷◌, ◌++◌, length, map, Option, None, Some, refl, sym, ap, subst, ◌∙◌, arith, true≢false, filter, ◌||◌, ◌==◌, ◌&&◌, All, not}
-use Rattle.std.specs.List.{list_any, range_with_len}
+use Rattle.std.specs.List.{list_any}
 use Rattle.std.specs.Prelude.{is_some, nat_le}
 use Rattle.std.specs.Str.{bytes_eq}
-use Rattle.std.proofs.lemmas.Bool.Decides.{nat_tests}
 use Rattle.std.proofs.lemmas.List.Elements.{All-nil, All-append}
 use Rattle.sds_value.specs.declared.row.Peer.{Peer}
 use Rattle.sds_types.specs.declared.ack.Ack.{Ack}
 use Rattle.sds_types.specs.declared.batch.NewBatch.{NewBatch}
 use Rattle.sds_types.specs.declared.batch.OutBatch.{OutBatch}
-use Rattle.sds_types.specs.declared.batch.Standing.{Standing}
 use Rattle.sds_types.specs.declared.batch.Standing.TheVariants as standing
 use Rattle.sds_types.specs.declared.config.Config.{Config}
 use Rattle.sds_trade.proofs.Lists.{all_head, all_tail, passes}
@@ -19,7 +17,7 @@ use Rattle.sds_history.specs.history.Changes.{runs_after}
 use Rattle.sds_history.specs.history.Made.{batches_by, made_after, next_batches, out_batch, peers_at}
 use Rattle.sds_history.specs.history.Messages.{is_in_lane, lane_made}
 use Rattle.sds_history.specs.history.Runs.{Run}
-use Rattle.sds_history.specs.history.Standings.{acks_from, is_acked, is_ok_for, is_error_of, last_error, same_lane, standing_of, with_standing}
+use Rattle.sds_history.specs.history.Standings.{acks_from, is_acked, is_ok_for, is_error_of, last_error, same_lane, with_standing}
 use Rattle.sds_history.specs.history.States.{new_state, state_of}
 use Rattle.sds_nodelaws.specs.Acknowledged.{AckedComeFirst, AckedFirst}
 use Rattle.sds_nodelaws.specs.Calls.{Call, act_of, begun, called_all, with_made}
@@ -122,11 +120,12 @@ later_ok batches acts to channel x (y ∷ rest) unacked lane none lanes after is
 downs : (batches : List OutBatch) (acts : List Act) (to : List ℕ) (channel : ℕ) (lane : List OutBatch) → All Unacked lane → All (InLane to channel) lane
     → Ascending (λ (b : OutBatch). b.id) lane → Down (λ (b : OutBatch). is_acked b.standing) (map (with_standing batches acts) lane)
 downs batches acts to channel [] none lanes ascend = tt
-downs batches acts to channel (x ∷ lane) none lanes ascend =
-    ((λ any. later_ok batches acts to channel x lane (all_head Unacked x lane none) (all_head (InLane to channel) x lane lanes) (all_tail Unacked x lane none)
-    (all_tail (InLane to channel) x lane lanes) ascend.0
-    (sym (any_map (λ (b : OutBatch). is_acked b.standing) (with_standing batches acts) lane) ∙ any)),
-    downs batches acts to channel lane (all_tail Unacked x lane none) (all_tail (InLane to channel) x lane lanes) ascend.1)
+downs batches acts to channel (x ∷ lane) none lanes ascend = (
+  (λ any. later_ok batches acts to channel x lane (all_head Unacked x lane none) (all_head (InLane to channel) x lane lanes) (all_tail Unacked x lane none)
+      (all_tail (InLane to channel) x lane lanes) ascend.0
+      (sym (any_map (λ (b : OutBatch). is_acked b.standing) (with_standing batches acts) lane) ∙ any)),
+  downs batches acts to channel lane (all_tail Unacked x lane none) (all_tail (InLane to channel) x lane lanes) ascend.1,
+)
 
 -- batches are made unacknowledged
 made_unacked : (config : Config) (opening : State) (runs : List Run) → All Unacked (made_after config opening runs)

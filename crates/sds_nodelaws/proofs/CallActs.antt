@@ -1,17 +1,13 @@
 -- What the acts of calls are, as worlds need them.
-use Rattle.std.proofs.Common.{◌≡◌, ◌≢◌, ℕ, zero, suc, ◌+◌, ◌<◌, ◌≤◌, Bool, true, false, cond, List, [], ◌∷◌, length, Option, None, Some, Result, Ok, Err, refl, sym, ap, subst, ◌∙◌, arith, true≢false, ◌||◌, ◌&&◌, ◌==◌, not, All, AllPairs}
-use Rattle.std.specs.List.{position, prefix_len}
+use Rattle.std.proofs.Common.{◌≡◌, ◌≢◌, ℕ, ◌<◌, ◌≤◌, Bool, true, false, cond, List, Option, None, Some, Result, Ok, Err, refl, sym, ap, subst, ◌∙◌, true≢false, ◌||◌, ◌&&◌, not}
 use Rattle.std.specs.Option.{option_map_or}
 use Rattle.std.specs.Prelude.{is_some, nat_le, nat_lt}
 use Rattle.std.specs.Str.{bytes_eq}
 use Rattle.sds_value.specs.declared.row.Peer.{Peer}
-use Rattle.sds_types.specs.Limits.{most_write_rows}
 use Rattle.sds_types.specs.declared.ack.Ack.{Ack}
 use Rattle.sds_types.specs.declared.ack.AckRefusal.{AckRefusal}
-use Rattle.sds_types.specs.declared.channel.ChannelDef.{ChannelDef}
 use Rattle.sds_types.specs.declared.config.Config.{Config}
 use Rattle.sds_types.specs.declared.lane.LaneError.{LaneError}
-use Rattle.sds_types.specs.declared.lane.LaneIn.{LaneIn}
 use Rattle.sds_types.specs.declared.load_answer.LoadAnswer.{LoadAnswer}
 use Rattle.sds_types.specs.declared.load_answer.LoadAnswer.TheVariants as answer
 use Rattle.sds_types.specs.declared.load_answer.PeerRefusal.{PeerRefusal}
@@ -44,9 +40,8 @@ use Rattle.sds_history.specs.history.Routes.{route_act}
 use Rattle.sds_history.specs.history.Writes.{own_answer, waiting_in, write_act, write_by}
 use Rattle.sds_nodelaws.proofs.Items.{itself}
 use Rattle.sds_nodelaws.proofs.Made.{nothing, same_act, was_within}
-use Rattle.sds_nodelaws.proofs.Lists.{Either, from_le, from_not_le, no_some}
+use Rattle.sds_nodelaws.proofs.Lists.{Either, from_le, from_not_le}
 use Rattle.sds_nodelaws.proofs.Lists.Either.{left, right}
-use Rattle.sds_nodelaws.proofs.NodeFacts.{IsKept, Suits}
 
 -- PLAIN ACTS
 if_is : (plain act : Act) (b : Bool) → act_if b plain ≡ Some act → act ≡ plain
@@ -175,7 +170,7 @@ pub record LoadMade (state : State) (from : List ℕ) (batch : Prepared) (channe
   pub later : (lane_of state.lanes from channel).highest < batch.batch
   pub is : Either (act ≡ Loaded channel batch) ((error : LaneError) × (act ≡ Erred from channel error) × (error.batch ≡ batch.batch))
 
-load_by_is : (state : State) (from : List ℕ) (batch : Prepared) (channel : ℕ) (told : LoadAnswer) (act : Act) → load_by state from batch channel told ≡ Some act
+pub load_by_is : (state : State) (from : List ℕ) (batch : Prepared) (channel : ℕ) (told : LoadAnswer) (act : Act) → load_by state from batch channel told ≡ Some act
     → Either (act ≡ Loaded channel batch) ((error : LaneError) × (act ≡ Erred from channel error) × (error.batch ≡ batch.batch))
 load_by_is state from batch channel (answer.Loaded place) act made = left (sym (same_act (Loaded channel batch) act made))
 load_by_is state from batch channel (answer.Ignored place) act made = left (sym (same_act (Loaded channel batch) act made))

@@ -1,9 +1,8 @@
 -- A node's tables are what its steps made, and what it accepted was made whole.
-use Rattle.std.proofs.Common.{◌≡◌, ℕ, ◌+◌, Bool, true, false, cond, List, [], ◌∷◌, ◌++◌, length, map, Option, None, Some, Result, Ok, Err, refl, sym, ap, subst, ◌∙◌, true≢false, ◌==◌, All}
+use Rattle.std.proofs.Common.{◌≡◌, ℕ, ◌+◌, Bool, true, false, cond, List, [], ◌∷◌, ◌++◌, length, map, Option, None, Some, Ok, Err, refl, sym, ap, subst, ◌∙◌, ◌==◌, All}
 use Rattle.std.specs.List.{enumerate_from, fold}
 use Rattle.std.specs.Prelude.{nat_le, nat_lt}
 use Rattle.std.proofs.lemmas.List.Elements.{All-nil, All-cons}
-use Rattle.sds_value.specs.declared.row.Peer.{Peer}
 use Rattle.sds_value.specs.declared.table.TableDef.{TableDef}
 use Rattle.sds_types.specs.Limits.{most_write_rows}
 use Rattle.sds_types.specs.declared.config.Config.{Config}
@@ -11,7 +10,6 @@ use Rattle.sds_types.specs.declared.conflict.Resolution.{Resolution}
 use Rattle.sds_types.specs.declared.conflict.Resolution.TheVariants.{Apply, SkipRow, SkipBatch, Broken}
 use Rattle.sds_types.specs.declared.counts.WriterLast.{WriterLast}
 use Rattle.sds_types.specs.declared.lane.LaneError.{LaneError}
-use Rattle.sds_types.specs.declared.load_answer.LoadAnswer.{LoadAnswer}
 use Rattle.sds_types.specs.declared.load_answer.LoadAnswer.TheVariants as answer
 use Rattle.sds_types.specs.declared.load_answer.PeerRefusal.TheVariants as refused
 use Rattle.sds_types.specs.declared.prepared.Body.{Body}
@@ -19,10 +17,8 @@ use Rattle.sds_types.specs.declared.prepared.Body.TheVariants as body
 use Rattle.sds_types.specs.declared.prepared.Prepared.{Prepared}
 use Rattle.sds_types.specs.declared.row.RowStep.{RowStep}
 use Rattle.sds_types.specs.declared.row.TableRow.{TableRow}
-use Rattle.sds_types.specs.declared.rule.Rule.{Rule}
 use Rattle.sds_types.specs.declared.tx_row.TxRow.{TxRow}
 use Rattle.sds_types.specs.declared.write_answer.WriteRefusal.TheVariants.{OldNumber, GapNumber, TooManyRows}
-use Rattle.sds_types.specs.declared.write_answer.Written.TheVariants.{Done as Did, Again}
 use Rattle.sds_trade.specs.rules.Captured.{Done, overflows}
 use Rattle.sds_trade.specs.rules.Outcomes.{batch_judge, by_body, by_channel, outcome_of_batch, with_number}
 use Rattle.sds_trade.specs.rules.OwnWrites.{outcome_of_write, own_judge}
@@ -33,7 +29,7 @@ use Rattle.sds_history.specs.history.Acts.{Act, History, State}
 use Rattle.sds_history.specs.history.Acts.Act.{Opened, Joined, Confirmed, Wrote, Routed, Loaded, Erred, Acked}
 use Rattle.sds_history.specs.history.Changes.{run_after, run_end_of, runs_after, waiting_after}
 use Rattle.sds_history.specs.history.Lanes.{lane_of}
-use Rattle.sds_history.specs.history.Loads.{channel_answer, ended_answer, error_answer, keeps_error, knows_sender, lane_answer, load_by, load_of, next_load, outcome_answer}
+use Rattle.sds_history.specs.history.Loads.{channel_answer, ended_answer, error_answer, keeps_error, knows_sender, load_by, load_of, next_load, outcome_answer}
 use Rattle.sds_history.specs.history.Registrations.{token_of}
 use Rattle.sds_history.specs.history.Runs.{Run, dones_of, rows_after_run, tables_after}
 use Rattle.sds_history.specs.history.States.{state_of}

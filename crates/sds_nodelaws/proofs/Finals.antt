@@ -88,7 +88,7 @@ placed_on batches added acts act batch (Some before) is acked =
     let ok : standing_of batches acts before ≡ standing.Acked = ap (λ (b : OutBatch). b.standing) same ∙ acked in
     ap (λ s. Some (record before { standing = s })) (stays batches added acts act before ok ∙ sym ok) ∙ is
 
-got_more : {X : Type 0} (xs ys : List X) (place : ℕ) (x : X) → slice_get xs place ≡ Some x → slice_get (xs ++ ys) place ≡ Some x
+pub got_more : {X : Type 0} (xs ys : List X) (place : ℕ) (x : X) → slice_get xs place ≡ Some x → slice_get (xs ++ ys) place ≡ Some x
 got_more [] ys place x is = absurd (true≢false (sym (ap (λ o. elim o [ None ↦ false | Some y ↦ true ]) is)))
 got_more (y ∷ xs) ys zero x is = is
 got_more (y ∷ xs) ys (suc place) x is = got_more xs ys place x is

@@ -15,3 +15,4 @@ pub mod CallActs
 pub mod NodeFacts
 pub mod Ending
 pub mod Acknowledged
+pub mod Documents

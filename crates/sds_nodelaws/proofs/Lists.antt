@@ -1,6 +1,6 @@
 -- Lists and tests: small lemmas that the laws of worlds need.
-use Rattle.std.proofs.Common.{◌≡◌, ◌≢◌, ℕ, zero, suc, ◌+◌, ◌<◌, ◌≤◌, Bool, true, false, cond, List, [], ◌∷◌, ◌++◌, length, map, Option, None, Some, refl, sym, ap, subst, ◌∙◌, arith, true≢false, filter, filter_map, find, ◌||◌, ◌&&◌, ◌==◌, All, AllPairs}
-use Rattle.std.specs.List.{cons_option, enumerate_from, flat_map, list_any, range_with_len}
+use Rattle.std.proofs.Common.{◌≡◌, ℕ, zero, suc, ◌+◌, ◌<◌, ◌≤◌, Bool, true, false, cond, List, [], ◌∷◌, ◌++◌, map, Option, None, Some, refl, sym, ap, subst, ◌∙◌, arith, true≢false, filter, filter_map, find, ◌||◌, ◌&&◌, All}
+use Rattle.std.specs.List.{cons_option, flat_map, list_any, range_with_len}
 use Rattle.std.specs.Prelude.{nat_le, nat_lt, slice_get}
 use Rattle.std.proofs.lemmas.Bool.Decides.{nat_tests}
 use Rattle.std.proofs.lemmas.List.Concat.{flat_map-cons}

@@ -20,7 +20,7 @@ use Rattle.sds_types.specs.declared.lane.LaneIn.{LaneIn}
 use Rattle.sds_types.specs.declared.peer.KeptPeer.{KeptPeer}
 use Rattle.sds_types.specs.declared.row.Change.{Change}
 use Rattle.sds_trade.proofs.CutLaw.{cut_is_a_cut}
-use Rattle.sds_trade.proofs.Lists.{all_head, all_tail, passes}
+use Rattle.sds_trade.proofs.Lists.{all_head, all_tail}
 use Rattle.sds_trade.specs.rules.Batches.{batch_in, batches_of, channels_in_order, is_for, lane_batches, lane_changes, numbered_batch, peers_named, routed_changes}
 use Rattle.sds_trade.specs.rules.Cuts.{changes_in, cut}
 use Rattle.sds_trade.specs.rules.Named.{is_named, targets_of}
@@ -30,27 +30,30 @@ use Rattle.sds_history.specs.history.Acts.{Act, History, State}
 use Rattle.sds_history.specs.history.Acts.Act.{Opened, Joined, Confirmed, Wrote, Routed, Loaded, Erred, Acked}
 use Rattle.sds_history.specs.history.Changes.{run_after, unrouted_after}
 use Rattle.sds_history.specs.history.Lanes.{empty_lane, is_ignored, is_lane, lane_key, lane_of}
-use Rattle.sds_history.specs.history.Made.{batches_by, next_batches, out_batch}
+use Rattle.sds_history.specs.history.Made.{batches_by, out_batch}
 use Rattle.sds_history.specs.history.Orders.{is_before, item_at, with_item}
 use Rattle.sds_history.specs.history.Peers.{kept_peer, peer_key, peers_by}
-use Rattle.sds_history.specs.history.Runs.{Run}
 use Rattle.sds_history.specs.history.Standings.{acks_in, is_acked, is_error_of, is_ok_for, last_error, with_standing}
 use Rattle.sds_history.specs.history.States.{state_after}
 use Rattle.sds_nodelaws.specs.Counters.{batch_ids, change_ids}
 use Rattle.sds_nodelaws.proofs.Channels.{At, numbered_all, sorted_all}
 use Rattle.sds_nodelaws.proofs.Counted.{batches_count_on, changes_count_on, ranges_append}
 use Rattle.sds_nodelaws.proofs.Held.{all_of, first_all, last_all, mapped}
-use Rattle.sds_nodelaws.proofs.Items.{itself, new_item, other_item}
-use Rattle.sds_nodelaws.proofs.Tests.{at_most, same_number}
-use Rattle.sds_nodelaws.proofs.Lists.{Either, In, all_flat, filter_all, filter_none, find_all, from_lt, from_not_lt, in_all, map_all, most_in_range, no_some, unmap_all}
+use Rattle.sds_nodelaws.proofs.Items.{itself, other_item}
+use Rattle.sds_nodelaws.proofs.Tests.{at_most}
+use Rattle.sds_nodelaws.proofs.Lists.{In, all_flat, filter_all, filter_none, find_all, from_lt, from_not_lt, in_all, map_all, most_in_range, no_some, unmap_all}
 use Rattle.sds_nodelaws.proofs.Lists.Either.{left, right}
 
 -- PEERS. Some peer is kept of an id
 abbrev pub IsKept : List KeptPeer → List ℕ → Type 0
 IsKept peers id = is_some (kept_peer peers id) ≡ true
 
--- what is asked of an act: a peer that is kept is new and not the node itself; what is loaded came
--- from a kept peer in a channel that is there
+-- a peer that an act keeps is new, and not the node itself
+abbrev pub JoinsNew : State → Act → Type 0
+JoinsNew state (Joined kept) = (kept_peer state.peers kept.peer.id ≡ None) × (kept.peer.id ≢ state.me.id)
+JoinsNew state act = Unit {0}
+
+-- and what is loaded came from a kept peer in a channel that is there
 abbrev pub Suits : Config → State → Act → Type 0
 Suits config state (Joined kept) = (kept_peer state.peers kept.peer.id ≡ None) × (kept.peer.id ≢ state.me.id)
 Suits config state (Loaded channel batch) = IsKept state.peers batch.from × (channel < length config.channels)
@@ -61,7 +64,17 @@ joins_apart : (peers : List KeptPeer) (kept : KeptPeer) (id : List ℕ) (p : Kep
     → encode_utf8_all kept.peer.id ≢ encode_utf8_all id
 joins_apart peers kept id p none found same = no_some p (sym none ∙ (ap (kept_peer peers) (encodes_same kept.peer.id id same) ∙ found))
 
-pub kept_stays : (config : Config) (state : State) (act : Act) (id : List ℕ) (p : KeptPeer) → Suits config state act → kept_peer state.peers id ≡ Some p
+pub joins_of : (config : Config) (state : State) (act : Act) → Suits config state act → JoinsNew state act
+joins_of config state (Joined kept) suits = suits
+joins_of config state (Opened group external token) suits = tt
+joins_of config state (Confirmed peer) suits = tt
+joins_of config state (Wrote writer number rows) suits = tt
+joins_of config state Routed suits = tt
+joins_of config state (Loaded channel batch) suits = tt
+joins_of config state (Erred from channel error) suits = tt
+joins_of config state (Acked from acks) suits = tt
+
+pub kept_stays : (config : Config) (state : State) (act : Act) (id : List ℕ) (p : KeptPeer) → JoinsNew state act → kept_peer state.peers id ≡ Some p
     → kept_peer (peers_by act state.peers) id ≡ Some p
 kept_stays config state (Joined kept) id p suits found =
     other_item peer_key kept state.peers (encode_utf8_all id) (joins_apart state.peers kept id p suits.0 found) ∙ found
@@ -73,7 +86,7 @@ kept_stays config state (Loaded channel batch) id p suits found = found
 kept_stays config state (Erred from channel error) id p suits found = found
 kept_stays config state (Acked from acks) id p suits found = found
 
-pub still_kept : (config : Config) (state : State) (act : Act) (id : List ℕ) → Suits config state act → IsKept state.peers id
+pub still_kept : (config : Config) (state : State) (act : Act) (id : List ℕ) → JoinsNew state act → IsKept state.peers id
     → IsKept (peers_by act state.peers) id
 still_kept config state act id suits kept = kept_on (kept_peer state.peers id) refl kept
   where
@@ -82,7 +95,7 @@ still_kept config state act id suits kept = kept_on (kept_peer state.peers id) r
     kept_on (Some p) is some = ap is_some (kept_stays config state act id p suits is)
 
 -- the node itself is no peer
-own_stays : (config : Config) (state : State) (act : Act) → Suits config state act → kept_peer state.peers state.me.id ≡ None
+own_stays : (config : Config) (state : State) (act : Act) → JoinsNew state act → kept_peer state.peers state.me.id ≡ None
     → kept_peer (peers_by act state.peers) state.me.id ≡ None
 own_stays config state (Joined kept) suits none =
     other_item peer_key kept state.peers (encode_utf8_all state.me.id) (λ same. suits.1 (encodes_same kept.peer.id state.me.id same)) ∙ none
@@ -318,14 +331,14 @@ last_batch_rises config state act = more state.counts.last_batch _
     more : (a n : ℕ) → a ≤ a + n
     more a n = omega arith
 
-goes_on : (config : Config) (state : State) (act : Act) (batch : OutBatch) → Suits config state act → GoesOut state batch → GoesOut (state_after config state act) batch
+goes_on : (config : Config) (state : State) (act : Act) (batch : OutBatch) → JoinsNew state act → GoesOut state batch → GoesOut (state_after config state act) batch
 goes_on config state act batch suits out = (
   still_kept config state act batch.peer suits out.0,
   mapped (λ (n : ℕ). n ≤ state.counts.last_change) (λ (n : ℕ). n ≤ (state_after config state act).counts.last_change) batch.changes
       (λ n less. at_most n state.counts.last_change (state_after config state act).counts.last_change less (last_change_rises config state act)) out.1,
 )
 
-unsaid_batches : (config : Config) (state : State) (act : Act) → IsUnsaid act → IsSound config → Suits config state act → All (GoesOut state) state.batches
+unsaid_batches : (config : Config) (state : State) (act : Act) → IsUnsaid act → IsSound config → JoinsNew state act → All (GoesOut state) state.batches
     → All (CutOk state.counts.last_change) state.changes → All (GoesOut (state_after config state act)) (state_after config state act).batches
 unsaid_batches config state act none sound suits before changes =
     subst (All (GoesOut (state_after config state act))) (sym (batches_after config state act none))
@@ -333,7 +346,7 @@ unsaid_batches config state act none sound suits before changes =
     (λ batch out. goes_on config state act batch suits out)
     (All-append (GoesOut state) state.batches (added config state act) before (added_goes_out config state act sound changes)))
 
-batches_stay : (config : Config) (state : State) (act : Act) → IsSound config → Suits config state act → All (GoesOut state) state.batches
+pub batches_stay : (config : Config) (state : State) (act : Act) → IsSound config → JoinsNew state act → All (GoesOut state) state.batches
     → All (CutOk state.counts.last_change) state.changes → All (GoesOut (state_after config state act)) (state_after config state act).batches
 batches_stay config state (Acked from acks) sound suits before changes =
     let after : State = state_after config state (Acked from acks) in
@@ -350,7 +363,7 @@ batches_stay config state (Loaded channel batch) sound suits before changes = un
 batches_stay config state (Erred from channel error) sound suits before changes = unsaid_batches config state (Erred from channel error) (λ p. refl) sound suits before changes
 
 came_on : (config : Config) (state : State) (act other : Act) → Suits config state act → Came config state other → Came config (state_after config state act) other
-came_on config state act (Loaded channel batch) suits came = (still_kept config state act batch.from suits came.0, came.1)
+came_on config state act (Loaded channel batch) suits came = (still_kept config state act batch.from (joins_of config state act suits) came.0, came.1)
 came_on config state act (Opened group external token) suits came = tt
 came_on config state act (Joined kept) suits came = tt
 came_on config state act (Confirmed peer) suits came = tt
@@ -417,7 +430,7 @@ ids_stay config state act before =
     after_one : (n : ℕ) → n + 1 ≡ 1 + n
     after_one n = omega arith
 
-changes_stay : (config : Config) (state : State) (act : Act) → All (CutOk state.counts.last_change) state.changes
+pub changes_stay : (config : Config) (state : State) (act : Act) → All (CutOk state.counts.last_change) state.changes
     → All (CutOk (state_after config state act).counts.last_change) (state_after config state act).changes
 changes_stay config state act before =
     let (made, counted) = changes_count_on config (one_act state act) in
@@ -437,11 +450,11 @@ changes_stay config state act before =
 pub facts_stay : (config : Config) (state : State) (acts : List Act) (act : Act) → IsSound config → Suits config state act → NodeFacts config state acts
     → NodeFacts config (state_after config state act) (act ∷ acts)
 facts_stay config state acts act sound suits before = record {
-  batches = batches_stay config state act sound suits before.batches before.changes;
+  batches = batches_stay config state act sound (joins_of config state act suits) before.batches before.changes;
   loads = mapped (Came config state) (Came config (state_after config state act)) (act ∷ acts) (λ other came. came_on config state act other suits came)
       (All-cons (Came config state) act acts (came_now config state act suits) before.loads);
   lanes = lanes_stay config state act suits before.lanes;
-  own = own_stays config state act suits before.own;
+  own = own_stays config state act (joins_of config state act suits) before.own;
   ids = ids_stay config state act before.ids;
   changes = changes_stay config state act before.changes;
 }

@@ -1,6 +1,6 @@
 -- A history may be cut in two: what a node has follows from what it had and its acts since.
-use Rattle.std.proofs.Common.{◌≡◌, ℕ, zero, suc, ◌+◌, ◌-◌, ◌<◌, ◌≤◌, Bool, true, false, cond, List, [], ◌∷◌, ◌++◌, length, map, Option, None, Some, Result, Ok, Err, refl, sym, ap, subst, ◌∙◌, arith, true≢false, filter, find, ◌||◌, ◌&&◌, ◌==◌, All, append_assoc, append-nil, not}
-use Rattle.std.specs.List.{flat_map, list_any, range_with_len}
+use Rattle.std.proofs.Common.{◌≡◌, ℕ, zero, suc, ◌+◌, ◌-◌, ◌<◌, ◌≤◌, Bool, true, false, cond, List, [], ◌∷◌, ◌++◌, length, map, Option, None, Some, refl, sym, ap, subst, ◌∙◌, arith, true≢false, filter, ◌||◌, ◌&&◌, ◌==◌, All, append_assoc, append-nil, not}
+use Rattle.std.specs.List.{list_any, range_with_len}
 use Rattle.std.specs.Prelude.{is_some, nat_le}
 use Rattle.std.specs.Str.{bytes_eq}
 use Rattle.std.proofs.lemmas.Bool.Decides.{nat_tests}
@@ -23,23 +23,22 @@ use Rattle.sds_types.specs.declared.row.TableRow.{TableRow}
 use Rattle.sds_trade.proofs.Lists.{all_head, all_tail}
 use Rattle.sds_trade.specs.rules.Batches.{batches_of, routed_changes}
 use Rattle.sds_trade.specs.rules.Runs.{RunEnd}
-use Rattle.sds_history.specs.history.Acks.{names_batch}
 use Rattle.sds_history.specs.history.Acts.{Act, History, State}
 use Rattle.sds_history.specs.history.Acts.Act.{Opened, Joined, Confirmed, Wrote, Routed, Loaded, Erred, Acked}
 use Rattle.sds_history.specs.history.Changes.{changes_after, run_after, run_end_of, runs_after, unrouted_after, waiting_after}
 use Rattle.sds_history.specs.history.Lanes.{lanes_after, lanes_by}
-use Rattle.sds_history.specs.history.Made.{batches_by, made_after, next_batches, out_batch, peers_at}
+use Rattle.sds_history.specs.history.Made.{batches_by, made_after, next_batches, out_batch}
 use Rattle.sds_history.specs.history.Peers.{peers_after}
 use Rattle.sds_history.specs.history.Runs.{Run, captured_count, captured_in, last_change_after, last_tx_after, mark_after, mark_by, rows_after_run, tables_after}
 use Rattle.sds_history.specs.history.Standings.{acknowledged, acks_from, acks_in, erred_by, is_acked, is_error_of, is_ok_for, last_error, same_lane, standing_of, with_standing}
-use Rattle.sds_history.specs.history.States.{counts_after, state_after, state_of}
+use Rattle.sds_history.specs.history.States.{state_after, state_of}
 use Rattle.sds_history.specs.history.Writers.{writers_after, writers_by}
 use Rattle.sds_history.specs.world.Calling.{with_act}
 use Rattle.sds_nodelaws.specs.Calls.{Call, act_of, begun, called, called_all, with_made}
 use Rattle.sds_nodelaws.specs.Counters.{batch_ids}
 use Rattle.sds_nodelaws.specs.Splicing.{CallsStepOn, HistoriesSplice, after_made, reopened}
 use Rattle.sds_nodelaws.proofs.Counted.{batches_count_on, next_ids}
-use Rattle.sds_nodelaws.proofs.Held.{any_map, last_all, mapped}
+use Rattle.sds_nodelaws.proofs.Held.{any_map, mapped}
 use Rattle.sds_nodelaws.proofs.Made.{Follows, Names, made_follows}
 use Rattle.sds_nodelaws.proofs.Tests.{at_most, or_cases, same_number}
 

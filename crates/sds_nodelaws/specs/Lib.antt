@@ -6,3 +6,4 @@ pub mod Routing
 pub mod Splicing
 pub mod Ending
 pub mod Acknowledged
+pub mod Documents

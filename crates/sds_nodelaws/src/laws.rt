@@ -2,6 +2,7 @@
 ghost use Rattle.sds_nodelaws.specs.Acknowledged.{AckedComeFirst};
 ghost use Rattle.sds_nodelaws.specs.Counters.{CountersNeverFall, MarkStaysWithin};
 ghost use Rattle.sds_nodelaws.specs.Counters.{ChangesCountOn, BatchesCountOn};
+ghost use Rattle.sds_nodelaws.specs.Documents.{DocumentsStay};
 ghost use Rattle.sds_nodelaws.specs.Ending.{AcceptedEndWell, TablesAreSteps};
 ghost use Rattle.sds_nodelaws.specs.Routing.{RoutedInOneBatch};
 ghost use Rattle.sds_nodelaws.specs.Splicing.{CallsStepOn, HistoriesSplice};
@@ -68,4 +69,10 @@ pub fn tables_follow_steps()
 /// others wait: a message begins with the first that isn't acknowledged.
 pub fn acknowledged_come_first()
     ensures first { AckedComeFirst }
+{}
+
+/// Under a sound configuration the batch at a place stays there, and its document is the same
+/// whenever it is asked for, whatever the node did in between.
+pub fn documents_stay()
+    ensures stay { DocumentsStay }
 {}

@@ -6,6 +6,6 @@ mod laws;
 
 pub use laws::{
     acknowledged_come_first, batches_count_on, changes_are_routed_once, changes_count_on,
-    counters_never_fall, histories_splice, mark_stays_within, ok_is_final, tables_follow_steps,
-    writers_count,
+    counters_never_fall, documents_stay, histories_splice, mark_stays_within, ok_is_final,
+    tables_follow_steps, writers_count,
 };

@@ -1,6 +1,5 @@
 -- The facts of a world stay by each call of a node, whatever fault its commit meets.
-use Rattle.std.proofs.Common.{◌≡◌, ◌≢◌, ℕ, ◌<◌, ◌≤◌, Bool, true, false, cond, List, [], ◌∷◌, ◌++◌, length, map, Option, None, Some, refl, sym, ap, subst, ◌∙◌, arith, true≢false, filter, find, ◌==◌, ◌&&◌, All, append-nil}
-use Rattle.std.specs.List.{list_any}
+use Rattle.std.proofs.Common.{◌≡◌, ℕ, ◌≤◌, Bool, true, false, List, [], ◌∷◌, map, Option, None, Some, refl, sym, ap, subst, All, append-nil}
 use Rattle.std.specs.Prelude.{is_some}
 use Rattle.sds_value.specs.declared.row.Peer.{Peer}
 use Rattle.sds_types.specs.declared.ack.Ack.{Ack}
@@ -9,20 +8,20 @@ use Rattle.sds_types.specs.declared.config.Config.{Config}
 use Rattle.sds_types.specs.declared.tx_row.TxRow.{TxRow}
 use Rattle.sds_trade.specs.rules.Sound.{IsSound}
 use Rattle.sds_history.specs.history.Acts.{Act, State}
-use Rattle.sds_history.specs.history.Acts.Act.{Opened, Joined, Confirmed, Wrote, Routed, Loaded, Erred, Acked}
+use Rattle.sds_history.specs.history.Acts.Act.{Opened, Joined, Confirmed, Wrote, Routed, Acked}
 use Rattle.sds_history.specs.history.Registrations.{token_of}
 use Rattle.sds_history.specs.world.Calling.{after_act, after_call}
 use Rattle.sds_history.specs.world.Worlds.{Node, World, has_id, me_of, node_at, state_in, with_node}
 use Rattle.sds_nodelaws.specs.Calls.{Call, act_of}
-use Rattle.sds_nodelaws.specs.Calls.Call.{Write, Route, Load, TakeAcks, Open, Register, Join, Confirm}
+use Rattle.sds_nodelaws.specs.Calls.Call.{Write, Route, TakeAcks, Open, Register, Join, Confirm}
 use Rattle.sds_nodelaws.proofs.CallActs.{Joins, acks_is, confirm_is, join_is, open_is, register_is, route_is, write_is}
 use Rattle.sds_worldlaws.proofs.LaneFacts.{AckOk, kept_of, made}
 use Rattle.sds_nodelaws.proofs.Lists.{find_all}
 use Rattle.sds_nodelaws.proofs.NodeFacts.{Suits}
 use Rattle.sds_worldlaws.proofs.Reached.{Reached, made_more}
 use Rattle.sds_worldlaws.proofs.WorldFacts.{AllGrows, Fits, WorldFacts, id_of_found}
-use Rattle.sds_worldlaws.proofs.WorldNodes.{faults_change, faulty}
-use Rattle.sds_worldlaws.proofs.WorldSteps.{acted, highest_rises, same_grows, same_most, state_follows, world_steps}
+use Rattle.sds_worldlaws.proofs.WorldNodes.{faults_change}
+use Rattle.sds_worldlaws.proofs.WorldSteps.{acted, highest_rises, same_grows, state_follows, world_steps}
 
 pub reached_at : (config : Config) (world : World) (id : List ℕ) (node : Node) → WorldFacts config world → node_at world id ≡ Some node → Reached config node
 reached_at config world id node facts is = find_all (Reached config) (has_id id) world.nodes node facts.reached is

@@ -1,5 +1,5 @@
 -- In whatever order a message is delivered, the batches of each channel come in their order.
-use Rattle.std.proofs.Common.{◌≡◌, ◌≢◌, ℕ, zero, suc, ◌+◌, ◌-◌, ◌<◌, ◌≤◌, Bool, true, false, cond, List, [], ◌∷◌, ◌++◌, length, map, Option, None, Some, refl, sym, ap, subst, ◌∙◌, arith, true≢false, filter, filter_map, ◌==◌, ◌&&◌, All, append-nil, append_assoc, take, drop, take-append-drop, get_or}
+use Rattle.std.proofs.Common.{◌≡◌, ℕ, zero, suc, ◌+◌, ◌-◌, ◌<◌, ◌≤◌, Bool, true, false, cond, List, [], ◌∷◌, ◌++◌, length, map, Option, None, Some, refl, sym, ap, subst, ◌∙◌, arith, true≢false, filter, filter_map, ◌==◌, All, append-nil, append_assoc, take, drop, take-append-drop, get_or}
 use Rattle.std.specs.List.{cons_option, enumerate_from}
 use Rattle.std.specs.Prelude.{nat_le, nat_lt, slice_get}
 use Rattle.std.proofs.lemmas.Bool.Decides.{nat_tests}
@@ -7,10 +7,10 @@ use Rattle.std.proofs.lemmas.List.{length-append}
 use Rattle.std.proofs.lemmas.List.Elements.{All-nil, All-cons, All-append, filter-append}
 use Rattle.sds_types.specs.declared.batch.OutBatch.{OutBatch}
 use Rattle.sds_trade.proofs.Lists.{all_head, all_tail, passes}
-use Rattle.sds_history.specs.world.DeliverOrder.{deliver_order, in_channel, is_in_part, is_left, mentioned_batch, mentions, rank_of}
-use Rattle.sds_nodelaws.proofs.Held.{equal_itself, mapped}
+use Rattle.sds_history.specs.world.DeliverOrder.{deliver_order, in_channel, is_in_part, is_left, mentioned_batch, mentions}
+use Rattle.sds_nodelaws.proofs.Held.{mapped}
 use Rattle.sds_nodelaws.proofs.Tests.{same_number}
-use Rattle.sds_nodelaws.proofs.Lists.{Ascending, ascending_filter, filter_none, from_le, from_not_le, in_all, is_le, is_lt_test, no_some, not_le, same_some}
+use Rattle.sds_nodelaws.proofs.Lists.{Ascending, ascending_filter, filter_none, from_le, from_not_le, in_all, is_lt_test, no_some, same_some}
 
 abbrev Placed : Type 0
 Placed = ℕ × OutBatch

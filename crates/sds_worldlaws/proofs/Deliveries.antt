@@ -1,6 +1,6 @@
 -- The facts of a world stay by a delivery, and its acks tell of what is loaded.
-use Rattle.std.proofs.Common.{◌≡◌, ◌≢◌, ℕ, zero, suc, ◌+◌, ◌<◌, ◌≤◌, Bool, true, false, cond, List, [], ◌∷◌, ◌++◌, length, map, Option, None, Some, Result, Ok, Err, refl, sym, ap, subst, ◌∙◌, arith, true≢false, filter, find, filter_map, ◌||◌, ◌==◌, ◌&&◌, All, AllPairs, not}
-use Rattle.std.specs.List.{cons_option, enumerate_from, list_any, position, prefix_len}
+use Rattle.std.proofs.Common.{◌≡◌, ◌≢◌, ℕ, zero, suc, ◌+◌, ◌<◌, ◌≤◌, Bool, true, false, cond, List, [], ◌∷◌, length, map, Option, None, Some, Result, Ok, Err, refl, sym, ap, subst, ◌∙◌, arith, true≢false, filter, filter_map, ◌||◌, ◌==◌, ◌&&◌, All, not}
+use Rattle.std.specs.List.{cons_option, list_any, prefix_len}
 use Rattle.std.specs.Option.{option_map_or}
 use Rattle.std.specs.Prelude.{is_some, nat_lt, slice_get}
 use Rattle.std.specs.Str.{bytes_eq}
@@ -15,7 +15,6 @@ use Rattle.sds_types.specs.declared.load_answer.LoadAnswer.{LoadAnswer}
 use Rattle.sds_types.specs.declared.load_answer.LoadAnswer.TheVariants as answer
 use Rattle.sds_types.specs.declared.load_answer.PeerRefusal.{PeerRefusal}
 use Rattle.sds_types.specs.declared.load_answer.PeerRefusal.TheVariants as peer
-use Rattle.sds_types.specs.declared.node_fault.NodeFault.{NodeFault}
 use Rattle.sds_types.specs.declared.node_fault.NodeFault.TheVariants.{Counters, Keeper}
 use Rattle.sds_types.specs.declared.peer.KeptPeer.{KeptPeer}
 use Rattle.sds_types.specs.declared.prepared.Prepared.{Prepared}
@@ -30,30 +29,29 @@ use Rattle.sds_history.specs.history.Acts.{Act, State}
 use Rattle.sds_history.specs.history.Acts.Act.{Loaded, Erred}
 use Rattle.sds_history.specs.history.Changes.{run_after}
 use Rattle.sds_history.specs.history.Counters.{would_pass}
-use Rattle.sds_history.specs.history.Lanes.{channel_name, is_ignored, lane_of}
-use Rattle.sds_history.specs.history.Loads.{error_act, knows_sender, load_act, load_answer, load_of, own_load_answer}
+use Rattle.sds_history.specs.history.Lanes.{channel_name, is_ignored}
+use Rattle.sds_history.specs.history.Loads.{error_act, knows_sender, load_of, own_load_answer}
 use Rattle.sds_history.specs.history.Messages.{is_in_lane, lane_made}
 use Rattle.sds_history.specs.history.Peers.{kept_peer}
-use Rattle.sds_history.specs.history.States.{state_after}
-use Rattle.sds_history.specs.world.Calling.{Called, after_act, after_call, fails}
+use Rattle.sds_history.specs.world.Calling.{after_act, after_call, fails}
 use Rattle.sds_history.specs.world.DeliverOrder.{is_in_part}
-use Rattle.sds_history.specs.world.Delivery.{Delivery, ack_at, ack_of, acks_in_order, answered, delivered_batches, is_over, load_at, sync_refusal, with_error, with_held, with_load, with_ok}
+use Rattle.sds_history.specs.world.Delivery.{Delivery, ack_at, ack_of, acks_in_order, answered, delivered_batches, is_over, load_at, sync_refusal, with_load, with_ok}
 use Rattle.sds_history.specs.world.Worlds.{Node, World, me_of, node_at, one_for, state_in, with_node}
 use Rattle.sds_nodelaws.specs.Calls.{Call, act_of}
 use Rattle.sds_nodelaws.specs.Calls.Call.{Load}
 use Rattle.sds_nodelaws.proofs.Held.{all_of, equal_itself, mapped}
-use Rattle.sds_nodelaws.proofs.Items.{differs, equal, itself}
+use Rattle.sds_nodelaws.proofs.Items.{equal, itself}
 use Rattle.sds_nodelaws.proofs.Tests.{other_number, same_number}
 use Rattle.sds_nodelaws.proofs.CallActs.{LoadMade, again_is, first_false, load_is}
 use Rattle.sds_worldlaws.proofs.CallSteps.{Asked, call_grows, call_steps, me_stays, plain, reached_at}
-use Rattle.sds_worldlaws.proofs.LaneFacts.{AckOk, AckTells, IsNext, LoadedIn, found_lane, kept_of, made, read}
+use Rattle.sds_worldlaws.proofs.LaneFacts.{AckOk, IsNext, LoadedIn, found_lane, kept_of, made, read}
 use Rattle.sds_worldlaws.proofs.LaneKeys.{name_in, one_place}
-use Rattle.sds_nodelaws.proofs.Lists.{Either, In, all_in, and_both, and_right, any_true, filter_none, find_all, from_lt, from_not_lt, in_filter, is_lt_test, map_all, map_same, map_twice, no_some, same_some, second_false}
+use Rattle.sds_nodelaws.proofs.Lists.{Either, In, all_in, and_both, and_right, any_true, filter_none, find_all, from_lt, from_not_lt, in_filter, is_lt_test, map_all, map_same, map_twice, no_some, second_false}
 use Rattle.sds_nodelaws.proofs.Lists.Either.{left, right}
 use Rattle.sds_nodelaws.proofs.NodeFacts.{Suits}
 use Rattle.sds_worldlaws.proofs.Reached.{Reached}
 use Rattle.sds_worldlaws.proofs.Ready.{Ready, ready_on}
-use Rattle.sds_worldlaws.proofs.WorldFacts.{AllGrows, Fits, Grows, LoadsBatch, LoadsNext, WorldFacts, ack_on, at_other, at_same, id_of_found}
+use Rattle.sds_worldlaws.proofs.WorldFacts.{AllGrows, Fits, LoadsNext, WorldFacts, ack_on, at_other, at_same, id_of_found}
 use Rattle.sds_worldlaws.proofs.WorldSteps.{acted, state_follows}
 
 -- CHANNELS. A channel is found by its name

@@ -1,12 +1,9 @@
 -- The facts of a world stay by each event.
-use Rattle.std.proofs.Common.{◌≡◌, ◌≢◌, ℕ, zero, suc, ◌+◌, ◌-◌, ◌<◌, ◌≤◌, Bool, true, false, cond, List, [], ◌∷◌, ◌++◌, length, map, Option, None, Some, Result, Ok, Err, refl, sym, ap, subst, ◌∙◌, arith, true≢false, filter, ◌||◌, ◌==◌, ◌&&◌, All, not}
-use Rattle.std.specs.List.{enumerate_from, list_any, position, prefix_len, range_with_len}
+use Rattle.std.proofs.Common.{◌≡◌, ◌≢◌, ℕ, zero, suc, ◌+◌, ◌-◌, ◌<◌, ◌≤◌, Bool, true, false, cond, List, [], ◌∷◌, ◌++◌, length, map, Option, None, Some, Result, Ok, Err, refl, sym, ap, subst, ◌∙◌, arith, true≢false, filter, ◌==◌, All, not}
+use Rattle.std.specs.List.{enumerate_from, position, prefix_len, range_with_len}
 use Rattle.std.specs.Option.{option_map_or}
-use Rattle.std.specs.Prelude.{is_some, nat_lt, slice_get}
-use Rattle.std.specs.Str.{bytes_eq}
-use Rattle.std.proofs.lemmas.Bool.Decides.{nat_tests}
+use Rattle.std.specs.Prelude.{is_some, nat_lt}
 use Rattle.std.proofs.lemmas.List.Elements.{All-nil, All-cons, All-append}
-use Rattle.std.proofs.lemmas.List.FromFn.{length-enumerate_from}
 use Rattle.sds_value.specs.declared.row.Peer.{Peer}
 use Rattle.sds_types.specs.declared.ack.Ack.{Ack}
 use Rattle.sds_types.specs.declared.ack.AckRefusal.TheVariants.{UnknownNode}
@@ -14,7 +11,6 @@ use Rattle.sds_types.specs.declared.batch.OutBatch.{OutBatch}
 use Rattle.sds_types.specs.declared.channel.ChannelDef.{ChannelDef}
 use Rattle.sds_types.specs.declared.config.Config.{Config}
 use Rattle.sds_types.specs.declared.message.Message.{Message}
-use Rattle.sds_types.specs.declared.message.MessagePart.{MessagePart}
 use Rattle.sds_types.specs.declared.message.Reply.{Reply}
 use Rattle.sds_types.specs.declared.node_fault.NodeFault.{NodeFault}
 use Rattle.sds_types.specs.declared.peer.KeptPeer.{KeptPeer}
@@ -29,30 +25,28 @@ use Rattle.sds_trade.specs.rules.Batches.{channels_in_order}
 use Rattle.sds_trade.specs.rules.Sound.{IsSound}
 use Rattle.sds_history.specs.history.Acts.{Act, State}
 use Rattle.sds_history.specs.history.Links.{has_pull, has_push, has_way}
-use Rattle.sds_history.specs.history.Messages.{acked_count, batches_in_parts, count_through, ends_part, is_in_lane, is_wanted, lane_made, lane_waiting, message_channels, part_of, parts_of}
+use Rattle.sds_history.specs.history.Messages.{batches_in_parts, count_through, ends_part, is_wanted, lane_waiting, message_channels, part_of, parts_of}
 use Rattle.sds_history.specs.history.Peers.{kept_peer}
 use Rattle.sds_history.specs.history.Standings.{is_acked}
 use Rattle.sds_history.specs.world.Answering.{answered_at, answered_reply, confirmed, take_at}
-use Rattle.sds_history.specs.world.Calling.{Called, after_call, armed}
+use Rattle.sds_history.specs.world.Calling.{after_call}
 use Rattle.sds_history.specs.world.DeliverOrder.{deliver_order, is_in_part}
-use Rattle.sds_history.specs.world.Delivering.{confirm_at, delivered, delivered_at, delivered_between, delivery_of, replied, with_reply}
+use Rattle.sds_history.specs.world.Delivering.{confirm_at, delivered, delivered_at, delivered_between, delivery_of, replied}
 use Rattle.sds_history.specs.world.Delivery.{Delivery, acks_in_order, delivered_batches}
-use Rattle.sds_history.specs.world.Events.{happened, routed, route_at, with_fault, write_at, written}
+use Rattle.sds_history.specs.world.Events.{happened, routed, with_fault, written}
 use Rattle.sds_history.specs.world.Exchanging.{exchanged, exchanged_if, may_exchange, next_step, pulled, pushed}
 use Rattle.sds_history.specs.world.Happened.{Happened, Told, quiet, tells}
 use Rattle.sds_history.specs.world.Happened.Told.{Opening, Registering, Writing, Routing, Sending, Delivering, Answering, NoPush, NoPull, Bytes, Tables, Batches, Crashed}
-use Rattle.sds_history.specs.world.Registering.{after_register, join_at, join_in, open_at, opened_at, register_at, registered}
+use Rattle.sds_history.specs.world.Registering.{after_register, join_in, opened_at, register_at, registered}
 use Rattle.sds_history.specs.world.Sending.{may_send, may_take, sent, sent_parts, with_message}
 use Rattle.sds_history.specs.world.Worlds.{Node, World, empty_world, me_of, message_of, node_at, reply_of, state_in, with_node}
-use Rattle.sds_nodelaws.specs.Calls.{Call, act_of}
-use Rattle.sds_nodelaws.specs.Calls.Call.{Write, Route, Load, TakeAcks, Open, Register, Join, Confirm}
+use Rattle.sds_nodelaws.specs.Calls.{act_of}
+use Rattle.sds_nodelaws.specs.Calls.Call.{Write, Route, TakeAcks, Open, Register, Join, Confirm}
 use Rattle.sds_nodelaws.proofs.Channels.{At, sorted_all}
 use Rattle.sds_nodelaws.proofs.Held.{mapped}
-use Rattle.sds_nodelaws.proofs.Items.{equal}
-use Rattle.sds_nodelaws.proofs.Tests.{at_most}
 use Rattle.sds_worldlaws.specs.Nodes.{world_after}
 use Rattle.sds_worldlaws.specs.Stepping.{AreNew, IsNew}
-use Rattle.sds_worldlaws.proofs.CallSteps.{Asked, acks_ask, call_steps, confirm_asks, join_asks, me_stays, open_asks, reached_at, register_asks, route_asks, write_asks}
+use Rattle.sds_worldlaws.proofs.CallSteps.{acks_ask, call_steps, confirm_asks, join_asks, me_stays, open_asks, reached_at, register_asks, route_asks, write_asks}
 use Rattle.sds_worldlaws.proofs.Deliveries.{Course, Going, acks_all, going_all, put_twice, receiver_there, sender_there}
 use Rattle.sds_worldlaws.proofs.LaneFacts.{AckOk, AckedOk, LaneFacts, ids_ascend, kept_of, made, upto}
 use Rattle.sds_nodelaws.proofs.Lists.{filter_all, from_lt, is_le, map_all, no_some, same_some, slice_all}

@@ -1,15 +1,13 @@
 -- What holds of a lane between two nodes, and stays so by each act of either.
-use Rattle.std.proofs.Common.{◌≡◌, ◌≢◌, ℕ, zero, suc, ◌+◌, ◌<◌, ◌≤◌, Bool, true, false, cond, List, [], ◌∷◌, ◌++◌, length, map, Option, None, Some, refl, sym, ap, subst, ◌∙◌, arith, true≢false, filter, filter_map, find, ◌||◌, ◌&&◌, ◌==◌, All, append-nil, append_assoc, not}
-use Rattle.std.specs.List.{flat_map, list_any, range_with_len}
+use Rattle.std.proofs.Common.{◌≡◌, ℕ, ◌+◌, ◌<◌, ◌≤◌, Bool, true, false, cond, List, [], ◌∷◌, ◌++◌, length, map, Option, None, Some, refl, sym, ap, subst, ◌∙◌, arith, true≢false, filter, find, ◌||◌, ◌&&◌, ◌==◌, All, append-nil, not}
+use Rattle.std.specs.List.{list_any, range_with_len}
 use Rattle.std.specs.Option.{option_map_or}
-use Rattle.std.specs.Prelude.{is_some, nat_le, nat_lt, unwrap_or}
-use Rattle.std.specs.Str.{bytes_eq, encode_utf8_all}
+use Rattle.std.specs.Prelude.{is_some, nat_le, unwrap_or}
+use Rattle.std.specs.Str.{bytes_eq}
 use Rattle.std.proofs.lemmas.Bool.Decides.{nat_tests}
 use Rattle.std.proofs.lemmas.List.{map-append}
-use Rattle.std.proofs.lemmas.List.Elements.{All-nil, All-cons, All-append, filter-append}
+use Rattle.std.proofs.lemmas.List.Elements.{All-nil, All-append, filter-append}
 use Rattle.std.proofs.lemmas.List.Folds.{list_any-append}
-use Rattle.sds_value.specs.declared.kind.Binary.TheVariants.{Base64}
-use Rattle.sds_value.specs.declared.row.Peer.{Peer}
 use Rattle.sds_types.specs.declared.ack.Ack.{Ack}
 use Rattle.sds_types.specs.declared.batch.NewBatch.{NewBatch}
 use Rattle.sds_types.specs.declared.batch.OutBatch.{OutBatch}
@@ -20,35 +18,32 @@ use Rattle.sds_types.specs.declared.lane.LaneError.{LaneError}
 use Rattle.sds_types.specs.declared.lane.LaneIn.{LaneIn}
 use Rattle.sds_types.specs.declared.peer.KeptPeer.{KeptPeer}
 use Rattle.sds_types.specs.declared.prepared.Prepared.{Prepared}
-use Rattle.sds_types.specs.declared.row.Change.{Change}
 use Rattle.sds_trade.proofs.Lists.{all_head, all_tail, passes}
 use Rattle.sds_trade.specs.rules.Batches.{batches_of, routed_changes}
 use Rattle.sds_trade.specs.rules.Outcomes.{prepared_batch}
 use Rattle.sds_trade.specs.rules.Sound.{IsSound}
-use Rattle.sds_trade.specs.rules.Transforms.{extracted_rows}
 use Rattle.sds_history.specs.history.Acts.{Act, State}
 use Rattle.sds_history.specs.history.Acts.Act.{Opened, Joined, Confirmed, Wrote, Routed, Loaded, Erred, Acked}
 use Rattle.sds_history.specs.history.Changes.{run_after, unrouted_after}
-use Rattle.sds_history.specs.history.Documents.{change_of_number, doc_of_batch, way_from, way_to}
-use Rattle.sds_history.specs.history.Lanes.{channel_name, empty_lane, is_ignored, is_lane, lane_key, lane_of}
+use Rattle.sds_history.specs.history.Documents.{doc_of_batch, way_from}
+use Rattle.sds_history.specs.history.Lanes.{empty_lane, is_ignored, is_lane, lane_key, lane_of}
 use Rattle.sds_history.specs.history.Made.{out_batch}
 use Rattle.sds_history.specs.history.Messages.{is_in_lane, lane_made}
 use Rattle.sds_history.specs.history.Orders.{with_item}
 use Rattle.sds_history.specs.history.Peers.{kept_peer}
-use Rattle.sds_history.specs.history.Runs.{Run, captured_in, last_tx_after}
-use Rattle.sds_history.specs.history.Standings.{acks_in, erred_by, is_acked, is_error_of, is_ok_for, last_error, same_lane, standing_of, with_standing}
+use Rattle.sds_history.specs.history.Standings.{acks_in, erred_by, is_acked, is_error_of, is_ok_for, last_error, same_lane, with_standing}
 use Rattle.sds_history.specs.history.States.{state_after}
 use Rattle.sds_history.specs.world.LaneParts.{load_in, loads_of}
-use Rattle.sds_nodelaws.specs.Counters.{change_ids}
-use Rattle.sds_nodelaws.proofs.Counted.{captured_ids, next_ids}
+use Rattle.sds_nodelaws.proofs.Counted.{next_ids}
 use Rattle.sds_nodelaws.proofs.Held.{any_map, equal_itself, mapped}
-use Rattle.sds_nodelaws.proofs.Items.{differs, equal, find_first, find_later, itself, new_found, other_found}
+use Rattle.sds_nodelaws.proofs.Items.{equal, itself, new_found, other_found}
 use Rattle.sds_nodelaws.proofs.Splicing.{numbered_after}
 use Rattle.sds_nodelaws.proofs.Tests.{at_most, or_cases, or_left, same_number}
 use Rattle.sds_worldlaws.proofs.LaneKeys.{one_lane}
-use Rattle.sds_nodelaws.proofs.Lists.{Ascending, Either, In, all_in, and_both, and_left, and_right, any_true, ascending_filter, ascending_range, filter_all, filter_map_same, filter_none, filter_through, find_none, find_passes, from_le, from_not_le, in_all, in_filter, is_le, least_in_range, map_all, map_same, map_twice, most_in_range, no_some, not_le, same_some, unmap_all}
+use Rattle.sds_nodelaws.proofs.Lists.{Ascending, Either, In, all_in, and_both, and_left, and_right, ascending_filter, ascending_range, filter_all, filter_none, filter_through, find_passes, from_le, in_all, in_filter, is_le, map_all, map_same, map_twice, most_in_range, not_le, unmap_all}
 use Rattle.sds_nodelaws.proofs.Lists.Either.{left, right}
-use Rattle.sds_nodelaws.proofs.NodeFacts.{Came, GoesOut, IsKept, IsUnsaid, NodeFacts, Suits, added, batches_after, kept_stays, last_batch_rises, last_change_rises}
+use Rattle.sds_nodelaws.proofs.Documents.{document_same}
+use Rattle.sds_nodelaws.proofs.NodeFacts.{Came, GoesOut, IsKept, IsUnsaid, NodeFacts, Suits, added, batches_after, joins_of, kept_stays, last_batch_rises}
 
 -- A LANE from one node to another in a channel: what was made, what is kept of it, and a batch as it
 -- is read
@@ -86,66 +81,11 @@ pub record LaneFacts (config : Config) (from to : State) (acts : List Act) (chan
   pub least : (kept_of from to channel).highest ≤ from.counts.last_batch
   pub error : ErrorOk (kept_of from to channel).highest (made from to channel) (kept_of from to channel).error
 
--- THE SENDER'S ACTS. A change of a number stays what it is
-same_change : (config : Config) (state : State) (act : Act) (number : ℕ) → number ≤ state.counts.last_change
-    → change_of_number (state_after config state act) number ≡ change_of_number state number
-same_change config state act number within =
-    let run : Run = run_after config state [] act in
-    let new : List Change = captured_in config state (state.counts.last_change + 0 + 1) (last_tx_after state [] + 1) run in
-    same_on new (find (λ (change : Change). change.id == number) state.changes) refl
-    (find_none (λ (change : Change). change.id == number) new
-    (mapped (λ (change : Change). state.counts.last_change < change.id) (λ (change : Change). (change.id == number) ≡ false) new
-    (λ change less. differ state.counts.last_change change.id number less within)
-    (above state.counts.last_change (length (captured_in config state 0 0 run)) new
-    (captured_ids config state (state.counts.last_change + 0 + 1) (last_tx_after state [] + 1) run))))
-  where
-    differ : (last id n : ℕ) → last < id → n ≤ last → (id == n) ≡ false
-    differ last id n less most = grind (arith, nat_tests, less, most)
-
-    over : (last k : ℕ) → last + 0 + 1 ≤ k → last < k
-    over last k least = omega (arith, least)
-
-    above : (last n : ℕ) (changes : List Change) → change_ids changes ≡ range_with_len (last + 0 + 1) n → All (λ (change : Change). last < change.id) changes
-    above last n changes same =
-        unmap_all (λ (k : ℕ). last < k) (λ (change : Change). change.id) changes
-        (subst (All (λ (k : ℕ). last < k)) (sym same)
-        (mapped (λ (k : ℕ). last + 0 + 1 ≤ k) (λ (k : ℕ). last < k) (range_with_len (last + 0 + 1) n) (λ k least. over last k least) (least_in_range (last + 0 + 1) n)))
-
-    same_on : (new : List Change) (found : Option Change) → find (λ (change : Change). change.id == number) state.changes ≡ found
-        → find (λ (change : Change). change.id == number) new ≡ None
-        → find (λ (change : Change). change.id == number) (state.changes ++ new) ≡ find (λ (change : Change). change.id == number) state.changes
-    same_on new None is none = find_later (λ (change : Change). change.id == number) state.changes new is ∙ (none ∙ sym is)
-    same_on new (Some change) is none = find_first (λ (c : Change). c.id == number) state.changes new change is ∙ sym is
-
-same_peer : (config : Config) (state : State) (act : Act) (id : List ℕ) → Suits config state act → IsKept state.peers id
-    → kept_peer (state_after config state act).peers id ≡ kept_peer state.peers id
-same_peer config state act id suits kept = same_on (kept_peer state.peers id) refl kept
-  where
-    same_on : (found : Option KeptPeer) → kept_peer state.peers id ≡ found → is_some found ≡ true
-        → kept_peer (state_after config state act).peers id ≡ kept_peer state.peers id
-    same_on None is some = absurd (true≢false (sym some))
-    same_on (Some p) is some = kept_stays config state act id p suits is ∙ sym is
-
--- and so a batch is read as before
+-- THE SENDER'S ACTS. A batch is read as before
 pub read_same : (config : Config) (from to : State) (act : Act) (batch : OutBatch) → Suits config from act → GoesOut from batch
     → read config (state_after config from act) to batch ≡ read config from to batch
 read_same config from to act batch suits out =
-    ap (λ rows. prepared_batch config (way_from to from.me.id) (record {
-      channel = channel_name config batch.channel;
-      batch = batch.id;
-      binary = Base64;
-      rows = rows;
-    }))
-    (ap (λ (found : Option KeptPeer). flat_map (extracted_rows config (record {
-      source = from.me.id;
-      source_group = from.me.group;
-      target = batch.peer;
-      target_group = option_map_or (λ (kept : KeptPeer). kept.peer.group) found [];
-    })) (filter_map (change_of_number (state_after config from act)) batch.changes)) (same_peer config from act batch.peer suits out.0)
-    ∙ ap (λ changes. flat_map (extracted_rows config (way_to from batch.peer)) changes)
-    (filter_map_same (change_of_number (state_after config from act)) (change_of_number from) batch.changes
-    (mapped (λ (n : ℕ). n ≤ from.counts.last_change) (λ (n : ℕ). change_of_number (state_after config from act) n ≡ change_of_number from n) batch.changes
-    (λ n within. same_change config from act n within) out.1)))
+    ap (prepared_batch config (way_from to from.me.id)) (document_same config from act batch (joins_of config from act suits) out)
 
 -- batches that an act makes are new
 new_after : (config : Config) (state : State) (act : Act) → All (λ (batch : OutBatch). state.counts.last_batch < batch.id) (added config state act)
@@ -519,7 +459,7 @@ by_receiver config from to acts act channel suits nothing same node before =
           source_group = option_map_or (λ (kept : KeptPeer). kept.peer.group) k [];
           target = to.me.id;
           target_group = to.me.group;
-        }) (doc_of_batch config from batch)) (is ∙ sym (kept_stays config to act from.me.id p suits is))))
+        }) (doc_of_batch config from batch)) (is ∙ sym (kept_stays config to act from.me.id p (joins_of config to act suits) is))))
 
 -- A LOAD. The record of the lane is found
 lane_passes : (lane : LaneIn) (from : List ℕ) (channel : ℕ) → is_lane from channel lane ≡ true → (lane.peer ≡ from) × (lane.channel ≡ channel)

@@ -1,5 +1,5 @@
 -- The records of two lanes have different keys, since no channel's name has a slash.
-use Rattle.std.proofs.Common.{◌≡◌, ◌≢◌, ℕ, zero, suc, ◌<◌, Bool, true, false, List, [], ◌∷◌, ◌++◌, length, Option, None, Some, refl, sym, ap, subst, ◌∙◌, arith, true≢false, ◌&&◌, All, AllPairs, codes}
+use Rattle.std.proofs.Common.{◌≡◌, ◌≢◌, ℕ, zero, suc, ◌<◌, true, List, [], ◌∷◌, ◌++◌, length, refl, sym, ap, subst, ◌∙◌, arith, true≢false, ◌&&◌, All, AllPairs}
 use Rattle.std.specs.List.{list_all}
 use Rattle.std.specs.Option.{option_map_or}
 use Rattle.std.specs.Prelude.{nat_le, slice_get}
@@ -16,8 +16,8 @@ use Rattle.sds_batchtext.proofs.PlainLines.{encoded}
 use Rattle.sds_history.specs.history.Lanes.{channel_name}
 use Rattle.sds_history.specs.history.Orders.{pair_key}
 use Rattle.sds_nodelaws.proofs.Held.{mapped}
-use Rattle.sds_nodelaws.proofs.Lists.{Either, In, all_in, and_left, and_right, in_last}
-use Rattle.sds_nodelaws.proofs.Lists.Either.{left, right}
+use Rattle.sds_nodelaws.proofs.Lists.{all_in, and_left, and_right, in_last}
+use Rattle.sds_nodelaws.proofs.Lists.Either.{left}
 
 -- SLASHES. The last one parts a key
 abbrev NoSlash : List ℕ → Type 0

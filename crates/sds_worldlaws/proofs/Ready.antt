@@ -1,26 +1,23 @@
 -- The batches of a message are ready to be loaded one after another in each channel.
-use Rattle.std.proofs.Common.{◌≡◌, ◌≢◌, ℕ, zero, suc, ◌+◌, ◌<◌, ◌≤◌, Bool, true, false, cond, List, [], ◌∷◌, ◌++◌, length, map, Option, None, Some, refl, sym, ap, subst, ◌∙◌, arith, true≢false, filter, filter_map, ◌||◌, ◌==◌, ◌&&◌, All, append_assoc, append-nil, take, drop, take-append-drop}
-use Rattle.std.specs.List.{cons_option, enumerate_from, flat_map, list_any}
+use Rattle.std.proofs.Common.{◌≡◌, ℕ, zero, suc, ◌+◌, ◌<◌, ◌≤◌, Bool, true, false, cond, List, [], ◌∷◌, ◌++◌, length, map, Option, None, Some, refl, sym, ap, subst, ◌∙◌, arith, filter, filter_map, ◌==◌, All, append_assoc, take, drop, take-append-drop}
+use Rattle.std.specs.List.{cons_option, enumerate_from}
 use Rattle.std.specs.Prelude.{nat_le, slice_get}
 use Rattle.std.specs.Str.{bytes_eq}
-use Rattle.std.proofs.lemmas.Bool.Decides.{nat_tests}
-use Rattle.std.proofs.lemmas.List.{length-append}
 use Rattle.std.proofs.lemmas.List.Concat.{flat_map-cons}
 use Rattle.std.proofs.lemmas.List.Elements.{All-nil, All-cons, All-append, filter-append}
 use Rattle.sds_types.specs.declared.batch.OutBatch.{OutBatch}
 use Rattle.sds_types.specs.declared.config.Config.{Config}
 use Rattle.sds_types.specs.declared.message.MessagePart.{MessagePart}
 use Rattle.sds_trade.proofs.Lists.{all_head, all_tail, passes}
-use Rattle.sds_history.specs.history.Acts.{Act, State}
+use Rattle.sds_history.specs.history.Acts.{State}
 use Rattle.sds_history.specs.history.Messages.{batches_in_part, batches_in_parts, is_in_lane, lane_made}
 use Rattle.sds_history.specs.world.DeliverOrder.{deliver_order, in_channel, is_in_part, is_left, mentioned_batch, mentions}
 use Rattle.sds_nodelaws.proofs.Held.{equal_itself, first_all, last_all, mapped}
 use Rattle.sds_nodelaws.proofs.Tests.{at_most, same_number}
 use Rattle.sds_worldlaws.proofs.DeliverOrders.{channel_batches, order_keeps_channels, places_ascend}
-use Rattle.sds_worldlaws.proofs.LaneFacts.{IsNext, ids_ascend, kept_of, made, upto}
+use Rattle.sds_worldlaws.proofs.LaneFacts.{IsNext, kept_of, made, upto}
 use Rattle.sds_nodelaws.proofs.Lists.{Ascending, Either, In, all_flat, and_left, any_true, ascending_filter, filter_all, filter_none, from_le, from_not_le, in_last, not_le, slice_all}
 use Rattle.sds_nodelaws.proofs.Lists.Either.{left, right}
-use Rattle.sds_nodelaws.proofs.NodeFacts.{NodeFacts}
 use Rattle.sds_worldlaws.proofs.WorldFacts.{PartOk}
 
 -- each batch is one of the lane's, and from a highest on it is loaded or the next when its turn comes

@@ -1,17 +1,15 @@
 -- A world of which the facts hold is in step.
-use Rattle.std.proofs.Common.{◌≡◌, ◌≢◌, ℕ, zero, suc, ◌+◌, ◌<◌, ◌≤◌, Bool, true, false, cond, List, [], ◌∷◌, ◌++◌, length, map, Option, None, Some, refl, sym, ap, subst, ◌∙◌, arith, true≢false, filter, ◌||◌, ◌==◌, ◌&&◌, All, take, get_or}
+use Rattle.std.proofs.Common.{◌≡◌, ◌≢◌, ℕ, zero, suc, ◌+◌, ◌<◌, ◌≤◌, Bool, true, false, cond, List, [], ◌∷◌, length, map, Option, None, Some, refl, sym, ap, subst, ◌∙◌, arith, true≢false, filter, ◌==◌, ◌&&◌, All, take, get_or}
 use Rattle.std.specs.Bool.{IsTrue}
 use Rattle.std.specs.List.{enumerate_from, flat_map, list_any}
 use Rattle.std.specs.Option.{option_map_or}
 use Rattle.std.specs.Prelude.{is_some, nat_le, nat_lt, slice_get}
 use Rattle.std.specs.Str.{bytes_eq}
 use Rattle.std.proofs.lemmas.Bool.Decides.{nat_tests}
-use Rattle.std.proofs.lemmas.List.{length-append, length-map}
-use Rattle.std.proofs.lemmas.List.Elements.{All-nil, All-cons, All-append}
+use Rattle.std.proofs.lemmas.List.{length-map}
 use Rattle.std.proofs.lemmas.List.Folds.{list_any-append}
 use Rattle.sds_types.specs.declared.ack.Ack.{Ack}
 use Rattle.sds_types.specs.declared.batch.OutBatch.{OutBatch}
-use Rattle.sds_types.specs.declared.channel.ChannelDef.{ChannelDef}
 use Rattle.sds_types.specs.declared.config.Config.{Config}
 use Rattle.sds_types.specs.declared.lane.LaneError.{LaneError}
 use Rattle.sds_types.specs.declared.lane.LaneIn.{LaneIn}
@@ -27,19 +25,18 @@ use Rattle.sds_history.specs.history.Lanes.{empty_lane, lane_of}
 use Rattle.sds_history.specs.history.Messages.{is_in_lane}
 use Rattle.sds_history.specs.history.Peers.{kept_peer}
 use Rattle.sds_history.specs.history.Standings.{is_acked}
-use Rattle.sds_history.specs.world.InStep.{CountsAgree, ErrorIsNext, InStep, LaneInStep, LoadsInOrder, MessageInStep, NodeInStep, ReplyInStep, is_ack_between, is_ack_in, is_batch_to, is_from_lane, is_in_step, is_loaded, is_next_error, is_part_in}
-use Rattle.sds_history.specs.world.LaneParts.{Lane, all_lanes, as_read, lanes_between, load_in, loaded_in, loads_of, made_in}
+use Rattle.sds_history.specs.world.InStep.{InStep, LaneInStep, MessageInStep, NodeInStep, ReplyInStep, is_ack_between, is_ack_in, is_batch_to, is_from_lane, is_loaded, is_next_error, is_part_in}
+use Rattle.sds_history.specs.world.LaneParts.{all_lanes, lanes_between, load_in, loaded_in, loads_of}
 use Rattle.sds_history.specs.world.Worlds.{Node, World, me_of, node_at, state_in}
 use Rattle.sds_nodelaws.proofs.Channels.{At}
 use Rattle.sds_nodelaws.proofs.Held.{any_map, mapped}
-use Rattle.sds_nodelaws.proofs.Items.{equal, itself}
-use Rattle.sds_nodelaws.proofs.Tests.{at_most, or_cases, or_left, or_right, same_number}
+use Rattle.sds_nodelaws.proofs.Tests.{or_cases, or_left, or_right, same_number}
 use Rattle.sds_worldlaws.specs.Nodes.{world_after}
-use Rattle.sds_worldlaws.specs.Stepping.{AreNew, WorldsStayInStep}
+use Rattle.sds_worldlaws.specs.Stepping.{WorldsStayInStep}
 use Rattle.sds_worldlaws.proofs.Everywhere.{routed_at, writes_at}
 use Rattle.sds_worldlaws.proofs.Happens.{all_facts, fewer, places_within}
 use Rattle.sds_worldlaws.proofs.LaneFacts.{AckOk, AckTells, AckedOk, ErrorOk, IsNext, LaneFacts, LoadedIn, ids_ascend, kept_of, made, none_loaded, read, upto}
-use Rattle.sds_nodelaws.proofs.Lists.{Ascending, Either, all_flat, and_both, and_left, and_right, ascending_filter, filter_none, from_le, from_not_le, is_le, is_lt_test, map_all, not_le, same_some}
+use Rattle.sds_nodelaws.proofs.Lists.{Ascending, Either, all_flat, and_both, ascending_filter, filter_none, from_le, from_not_le, is_le, is_lt_test, map_all, not_le, same_some}
 use Rattle.sds_nodelaws.proofs.Lists.Either.{left, right}
 use Rattle.sds_nodelaws.proofs.NodeFacts.{Came, NodeFacts}
 use Rattle.sds_worldlaws.proofs.Reached.{Reached}

@@ -1,39 +1,32 @@
 -- What holds of a world, and stays so by each act of a node.
-use Rattle.std.proofs.Common.{◌≡◌, ◌≢◌, ℕ, zero, suc, ◌+◌, ◌<◌, ◌≤◌, Bool, true, false, cond, List, [], ◌∷◌, ◌++◌, length, map, Option, None, Some, refl, sym, ap, subst, ◌∙◌, arith, true≢false, filter, find, ◌||◌, ◌&&◌, ◌==◌, All, append-nil, append_assoc}
+use Rattle.std.proofs.Common.{◌≡◌, ◌≢◌, ℕ, suc, ◌+◌, ◌<◌, ◌≤◌, Bool, true, false, cond, List, [], ◌∷◌, ◌++◌, length, map, Option, None, Some, refl, sym, ap, subst, ◌∙◌, arith, true≢false, filter, find, ◌&&◌, ◌==◌, All, append-nil}
 use Rattle.std.specs.List.{list_any}
 use Rattle.std.specs.Prelude.{is_some, nat_le}
 use Rattle.std.specs.Str.{bytes_eq}
 use Rattle.std.proofs.lemmas.List.{length-append, length-map, map-append}
-use Rattle.std.proofs.lemmas.List.Elements.{All-nil, All-cons, All-append, filter-append}
+use Rattle.std.proofs.lemmas.List.Elements.{filter-append}
 use Rattle.std.proofs.lemmas.List.Folds.{list_any-append}
-use Rattle.sds_types.specs.declared.ack.Ack.{Ack}
 use Rattle.sds_types.specs.declared.batch.OutBatch.{OutBatch}
 use Rattle.sds_types.specs.declared.config.Config.{Config}
-use Rattle.sds_types.specs.declared.lane.LaneError.{LaneError}
-use Rattle.sds_types.specs.declared.lane.LaneIn.{LaneIn}
 use Rattle.sds_types.specs.declared.message.Message.{Message}
 use Rattle.sds_types.specs.declared.message.MessagePart.{MessagePart}
 use Rattle.sds_types.specs.declared.message.Reply.{Reply}
 use Rattle.sds_types.specs.declared.prepared.Prepared.{Prepared}
-use Rattle.sds_trade.proofs.Lists.{all_head, all_tail}
-use Rattle.sds_trade.specs.rules.Sound.{IsSound}
 use Rattle.sds_history.specs.history.Acts.{Act, State}
-use Rattle.sds_history.specs.history.Acts.Act.{Opened, Joined, Confirmed, Wrote, Routed, Loaded, Erred, Acked}
+use Rattle.sds_history.specs.history.Acts.Act.{Joined, Loaded, Erred, Acked}
 use Rattle.sds_history.specs.history.Messages.{is_in_lane}
-use Rattle.sds_history.specs.history.Peers.{kept_peer}
 use Rattle.sds_history.specs.history.Standings.{with_standing}
 use Rattle.sds_history.specs.history.States.{state_after}
-use Rattle.sds_history.specs.world.Calling.{with_act}
 use Rattle.sds_history.specs.world.Worlds.{Node, World, has_id, me_of, node_at, one_for, state_in, with_node}
 use Rattle.sds_nodelaws.specs.Counters.{batch_ids}
-use Rattle.sds_nodelaws.proofs.Held.{any_map, mapped}
-use Rattle.sds_nodelaws.proofs.Items.{differs, equal, itself, other_item, new_item}
+use Rattle.sds_nodelaws.proofs.Held.{any_map}
+use Rattle.sds_nodelaws.proofs.Items.{differs, equal, itself}
 use Rattle.sds_nodelaws.proofs.Tests.{at_most, or_left}
-use Rattle.sds_worldlaws.proofs.LaneFacts.{AckOk, AckTells, IsNext, LaneFacts, LoadedIn, by_acks, by_error, by_load, by_other_error, by_other_load, by_receiver, by_sender, kept_of, made, read, upto}
-use Rattle.sds_nodelaws.proofs.Lists.{Either, In, filter_through, find_passes, from_le, from_not_le, map_all, map_twice, no_some, same_some}
+use Rattle.sds_worldlaws.proofs.LaneFacts.{AckOk, AckTells, IsNext, LaneFacts, LoadedIn, kept_of, made, read, upto}
+use Rattle.sds_nodelaws.proofs.Lists.{Either, In, filter_through, find_passes, from_le, from_not_le, map_twice, same_some}
 use Rattle.sds_nodelaws.proofs.Lists.Either.{left, right}
-use Rattle.sds_nodelaws.proofs.NodeFacts.{IsKept, IsUnsaid, NodeFacts, Suits, added, facts_stay}
-use Rattle.sds_worldlaws.proofs.Reached.{AllReached, Reached, put}
+use Rattle.sds_nodelaws.proofs.NodeFacts.{IsKept, NodeFacts, added}
+use Rattle.sds_worldlaws.proofs.Reached.{AllReached}
 
 -- NODES. The node of an id after one was put in the place of that of its id
 same_id : (id : List ℕ) (node : Node) → has_id id node ≡ true → (me_of node).id ≡ id

@@ -1,5 +1,5 @@
 -- The facts of a world stay where a node gets or loses a fault, and where a new node comes.
-use Rattle.std.proofs.Common.{◌≡◌, ◌≢◌, ℕ, ◌<◌, ◌≤◌, Bool, true, false, cond, List, [], ◌∷◌, ◌++◌, length, map, Option, None, Some, refl, sym, ap, subst, ◌∙◌, arith, true≢false, filter, find, ◌==◌, ◌&&◌, All, append-nil}
+use Rattle.std.proofs.Common.{◌≡◌, ◌≢◌, ℕ, ◌<◌, ◌≤◌, Bool, true, false, cond, List, [], ◌∷◌, length, map, Option, None, Some, refl, sym, ap, subst, ◌∙◌, arith, true≢false, filter, find, ◌==◌, ◌&&◌, All}
 use Rattle.std.specs.List.{list_any}
 use Rattle.std.specs.Prelude.{is_some, unwrap_or}
 use Rattle.std.specs.Str.{bytes_eq}
@@ -8,9 +8,6 @@ use Rattle.sds_value.specs.declared.row.Peer.{Peer}
 use Rattle.sds_types.specs.declared.batch.OutBatch.{OutBatch}
 use Rattle.sds_types.specs.declared.config.Config.{Config}
 use Rattle.sds_types.specs.declared.lane.LaneIn.{LaneIn}
-use Rattle.sds_types.specs.declared.message.Message.{Message}
-use Rattle.sds_types.specs.declared.message.Reply.{Reply}
-use Rattle.sds_trade.specs.rules.Sound.{IsSound}
 use Rattle.sds_history.specs.history.Acts.{State}
 use Rattle.sds_history.specs.history.Lanes.{empty_lane, is_lane, lane_of}
 use Rattle.sds_history.specs.history.Messages.{is_in_lane}
@@ -22,8 +19,8 @@ use Rattle.sds_worldlaws.proofs.LaneFacts.{AckedOk, ErrorOk, LaneFacts, kept_of,
 use Rattle.sds_nodelaws.proofs.Lists.{Either, and_right, filter_none, find_all, find_passes, map_all, no_some, same_some}
 use Rattle.sds_nodelaws.proofs.Lists.Either.{left, right}
 use Rattle.sds_nodelaws.proofs.NodeFacts.{Came, CutOk, GoesOut, IsKept, NodeFacts}
-use Rattle.sds_worldlaws.proofs.Reached.{AllReached, Reached, new_on, put, same_history}
-use Rattle.sds_worldlaws.proofs.WorldFacts.{AllGrows, MessageOk, ReplyOk, Which, WorldFacts, at_other, at_same, id_of_found, one_or_apart, still_there, which}
+use Rattle.sds_worldlaws.proofs.Reached.{Reached, new_on, put, same_history}
+use Rattle.sds_worldlaws.proofs.WorldFacts.{AllGrows, MessageOk, ReplyOk, Which, WorldFacts, at_other, at_same, id_of_found, still_there, which}
 use Rattle.sds_worldlaws.proofs.WorldFacts.Which.{this, that}
 use Rattle.sds_worldlaws.proofs.WorldSteps.{Grown, message_stays, reply_stays, same_grows}
 

@@ -1,25 +1,22 @@
 -- The facts of a world stay by each act of a node.
-use Rattle.std.proofs.Common.{◌≡◌, ◌≢◌, ℕ, ◌<◌, ◌≤◌, Bool, true, false, List, [], ◌∷◌, length, map, Option, None, Some, refl, sym, ap, subst, ◌∙◌, arith, true≢false, ◌==◌, ◌&&◌, cond, All, append-nil}
+use Rattle.std.proofs.Common.{◌≡◌, ◌≢◌, ℕ, ◌<◌, ◌≤◌, Bool, true, false, List, [], ◌∷◌, length, map, None, Some, refl, sym, ap, subst, ◌∙◌, arith, true≢false, ◌==◌, ◌&&◌, cond, All, append-nil}
 use Rattle.std.specs.List.{list_any}
 use Rattle.std.specs.Prelude.{is_some}
 use Rattle.std.specs.Str.{bytes_eq, encode_utf8_all}
 use Rattle.std.proofs.lemmas.Str.{encodes_same}
-use Rattle.sds_types.specs.declared.ack.Ack.{Ack}
 use Rattle.sds_types.specs.declared.batch.OutBatch.{OutBatch}
 use Rattle.sds_types.specs.declared.config.Config.{Config}
 use Rattle.sds_types.specs.declared.lane.LaneError.{LaneError}
 use Rattle.sds_types.specs.declared.lane.LaneIn.{LaneIn}
 use Rattle.sds_types.specs.declared.message.Message.{Message}
-use Rattle.sds_types.specs.declared.message.MessagePart.{MessagePart}
 use Rattle.sds_types.specs.declared.message.Reply.{Reply}
-use Rattle.sds_types.specs.declared.peer.KeptPeer.{KeptPeer}
 use Rattle.sds_types.specs.declared.prepared.Prepared.{Prepared}
 use Rattle.sds_trade.specs.rules.Sound.{IsSound}
 use Rattle.sds_history.specs.history.Acts.{Act, History, State}
 use Rattle.sds_history.specs.history.Acts.Act.{Opened, Joined, Confirmed, Wrote, Routed, Loaded, Erred, Acked}
 use Rattle.sds_history.specs.history.Changes.{run_after}
 use Rattle.sds_history.specs.history.Lanes.{is_ignored, lane_of}
-use Rattle.sds_history.specs.history.Peers.{kept_peer, peer_key, peers_by}
+use Rattle.sds_history.specs.history.Peers.{peer_key, peers_by}
 use Rattle.sds_history.specs.history.States.{state_after, state_of}
 use Rattle.sds_history.specs.world.Calling.{with_act}
 use Rattle.sds_history.specs.world.Worlds.{Node, World, me_of, node_at, one_for, state_in, with_node}
@@ -32,8 +29,8 @@ use Rattle.sds_worldlaws.proofs.LaneFacts.{AckOk, IsNext, LaneFacts, by_acks, by
 use Rattle.sds_nodelaws.proofs.Lists.{Either, In, map_all, same_some}
 use Rattle.sds_nodelaws.proofs.Lists.Either.{left, right}
 use Rattle.sds_nodelaws.proofs.NodeFacts.{IsKept, NodeFacts, Suits, facts_stay}
-use Rattle.sds_worldlaws.proofs.Reached.{AllReached, Reached, put}
-use Rattle.sds_worldlaws.proofs.WorldFacts.{AllGrows, Fits, Grows, LoadsBatch, LoadsNext, MessageOk, PartOk, ReplyOk, Which, WorldFacts, ack_on, at_other, at_same, id_of_found, made_stays, one_or_apart, part_grows, receiver_grows, sender_grows, still_there, which}
+use Rattle.sds_worldlaws.proofs.Reached.{Reached, put}
+use Rattle.sds_worldlaws.proofs.WorldFacts.{AllGrows, Fits, LoadsBatch, LoadsNext, MessageOk, PartOk, ReplyOk, Which, WorldFacts, ack_on, at_other, at_same, id_of_found, made_stays, one_or_apart, part_grows, receiver_grows, sender_grows, still_there, which}
 use Rattle.sds_worldlaws.proofs.WorldFacts.Which.{this, that}
 
 -- a node after an act, with these faults left
