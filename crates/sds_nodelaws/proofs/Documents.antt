@@ -1,15 +1,17 @@
 -- The document of a batch is the same whenever it is asked for.
-use Rattle.std.proofs.Common.{◌≡◌, ℕ, ◌+◌, ◌<◌, ◌≤◌, true, false, List, [], ◌∷◌, ◌++◌, length, Option, None, Some, Result, Ok, Err, refl, sym, ap, subst, ◌∙◌, arith, true≢false, filter_map, find, option_map, ◌==◌, All}
+use Rattle.std.proofs.Common.{◌≡◌, ℕ, ◌+◌, ◌<◌, ◌≤◌, true, false, List, [], map, ◌∷◌, ◌++◌, length, Option, None, Some, Result, Ok, Err, refl, sym, ap, subst, ◌∙◌, arith, true≢false, filter_map, find, option_map, ◌==◌, All, append_assoc, append-nil, filter}
 use Rattle.std.specs.List.{flat_map, range_with_len}
 use Rattle.std.specs.Option.{option_map_or}
 use Rattle.std.specs.Prelude.{is_some}
 use Rattle.std.proofs.lemmas.Bool.Decides.{nat_tests}
-use Rattle.std.proofs.lemmas.List.Elements.{All-nil}
+use Rattle.std.proofs.lemmas.List.{map-append}
+use Rattle.std.proofs.lemmas.List.Elements.{All-nil, filter-append}
 use Rattle.std.proofs.lemmas.Option.{slice_get-map}
 use Rattle.sds_value.specs.declared.kind.Binary.TheVariants.{Base64}
 use Rattle.sds_value.specs.declared.row.Peer.{Peer}
 use Rattle.sds_types.specs.declared.batch.OutBatch.{OutBatch}
 use Rattle.sds_types.specs.declared.config.Config.{Config}
+use Rattle.sds_types.specs.declared.document.BatchDoc.{BatchDoc}
 use Rattle.sds_types.specs.declared.lane.LaneError.{LaneError}
 use Rattle.sds_types.specs.declared.load_answer.LoadAnswer.{LoadAnswer}
 use Rattle.sds_types.specs.declared.load_answer.PeerRefusal.{PeerRefusal}
@@ -24,6 +26,7 @@ use Rattle.sds_history.specs.history.Changes.{run_after}
 use Rattle.sds_history.specs.history.Documents.{change_of_number, doc_of_batch, way_to}
 use Rattle.sds_history.specs.history.Lanes.{channel_name}
 use Rattle.sds_history.specs.history.Loads.{load_of, own_load_answer}
+use Rattle.sds_history.specs.history.Messages.{is_in_lane, lane_made}
 use Rattle.sds_history.specs.history.Peers.{kept_peer}
 use Rattle.sds_history.specs.history.Registrations.{token_of}
 use Rattle.sds_history.specs.history.Runs.{Run, captured_in, last_tx_after}
@@ -39,7 +42,7 @@ use Rattle.sds_nodelaws.proofs.Counted.{captured_ids}
 use Rattle.sds_nodelaws.proofs.Finals.{got_more}
 use Rattle.sds_nodelaws.proofs.Held.{mapped}
 use Rattle.sds_nodelaws.proofs.Items.{find_first, find_later}
-use Rattle.sds_nodelaws.proofs.Lists.{Either, filter_map_same, find_none, least_in_range, slice_all, unmap_all}
+use Rattle.sds_nodelaws.proofs.Lists.{Either, filter_all, filter_through, filter_map_same, find_none, least_in_range, map_same, map_twice, slice_all, unmap_all}
 use Rattle.sds_nodelaws.proofs.Lists.Either.{left, right}
 use Rattle.sds_nodelaws.proofs.Made.{nothing, was_within}
 use Rattle.sds_nodelaws.proofs.NodeFacts.{CutOk, GoesOut, IsKept, JoinsNew, added, batches_stay, changes_stay, kept_stays}
@@ -176,3 +179,41 @@ documents_stay config sound me older (call ∷ newer) place batch is =
     subst (λ (s : State). BatchStays config s before place batch) (sym (calls_step_on config me (newer ++ older) call))
     (stays_on config before state (act_of config state call) place batch (λ act made. made_joins config state call act made) (all_send config me (newer ++ older) sound)
     (documents_stay config sound me older newer place batch is))
+
+-- LANES. A lane's documents only get more
+pub record LaneGrows (config : Config) (now before : State) (to : List ℕ) (channel : ℕ) : Type 0 where
+  pub extra : List BatchDoc
+  pub same : map (doc_of_batch config now) (lane_made now to channel) ≡ map (doc_of_batch config before) (lane_made before to channel) ++ extra
+
+lane_on : (config : Config) (before state : State) (made : Option Act) (to : List ℕ) (channel : ℕ) → ((act : Act) → made ≡ Some act → JoinsNew state act)
+    → Sends config state → LaneGrows config state before to channel → LaneGrows config (after_made config state made) before to channel
+lane_on config before state None to channel joins sends grows = grows
+lane_on config before state (Some act) to channel joins sends grows =
+    let now : State = state_after config state act in
+    let told : OutBatch → OutBatch = with_standing (state.batches ++ added config state act) (act ∷ []) in
+    let new : List OutBatch = filter (is_in_lane to channel) (added config state act) in record {
+      extra = grows.extra ++ map (doc_of_batch config now) new;
+      same = ap (map (doc_of_batch config now)) (filter_through (is_in_lane to channel) told (state.batches ++ added config state act) (λ b. refl))
+          ∙ (map_twice (doc_of_batch config now) told (filter (is_in_lane to channel) (state.batches ++ added config state act))
+          ∙ (ap (map (doc_of_batch config now)) (filter-append (is_in_lane to channel) state.batches (added config state act))
+          ∙ (map-append (doc_of_batch config now) (lane_made state to channel) new
+          ∙ (ap (λ ds. ds ++ map (doc_of_batch config now) new)
+          (map_same (doc_of_batch config now) (doc_of_batch config state) (lane_made state to channel)
+          (mapped (GoesOut state) (λ (b : OutBatch). doc_of_batch config now b ≡ doc_of_batch config state b) (lane_made state to channel)
+          (λ b out. document_same config state act b (joins act refl) out) (filter_all (GoesOut state) (is_in_lane to channel) state.batches sends.batches)) ∙ grows.same)
+          ∙ append_assoc (map (doc_of_batch config before) (lane_made before to channel)) grows.extra (map (doc_of_batch config now) new)))));
+    }
+
+pub lanes_grow : (config : Config) → IsSound config → (me : Peer) (older newer : List Call) (to : List ℕ) (channel : ℕ)
+    → LaneGrows config (state_of config (called_all config (begun me) (newer ++ older))) (state_of config (called_all config (begun me) older)) to channel
+lanes_grow config sound me older [] to channel = record {
+  extra = [];
+  same = sym (append-nil (map (doc_of_batch config (state_of config (called_all config (begun me) older)))
+      (lane_made (state_of config (called_all config (begun me) older)) to channel)));
+}
+lanes_grow config sound me older (call ∷ newer) to channel =
+    let before : State = state_of config (called_all config (begun me) older) in
+    let state : State = state_of config (called_all config (begun me) (newer ++ older)) in
+    subst (λ (s : State). LaneGrows config s before to channel) (sym (calls_step_on config me (newer ++ older) call))
+    (lane_on config before state (act_of config state call) to channel (λ act made. made_joins config state call act made) (all_send config me (newer ++ older) sound)
+    (lanes_grow config sound me older newer to channel))

@@ -11,3 +11,5 @@ pub mod Deliveries
 pub mod Happens
 pub mod Everywhere
 pub mod Whole
+pub mod Keeping
+pub mod Written

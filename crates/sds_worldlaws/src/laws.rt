@@ -1,6 +1,7 @@
 //! Laws of every world.
 ghost use Rattle.sds_worldlaws.specs.Nodes.{RoutedOnceEverywhere, WritesCountEverywhere};
 ghost use Rattle.sds_worldlaws.specs.Stepping.{WorldsStayInStep};
+ghost use Rattle.sds_worldlaws.specs.Written.{MessagesStayWritten};
 
 /// After any list of events the writes that each node made of each writer are numbered 1, 2, 3 and
 /// so on: none is lost, and none is made twice.
@@ -23,4 +24,11 @@ pub fn changes_are_routed_once_everywhere()
 /// lane's error is at the batch after what is loaded. Each new node has an id of its own.
 pub fn worlds_stay_in_step()
     ensures step { WorldsStayInStep }
+{}
+
+/// A message that was written when it was sent is what its sender would write of the same batches at
+/// any later time: delivering the text, whose batches go by their numbers, loads what stands at the
+/// message's places.
+pub fn messages_stay_written()
+    ensures stay { MessagesStayWritten }
 {}

@@ -5,4 +5,7 @@
 
 mod laws;
 
-pub use laws::{changes_are_routed_once_everywhere, worlds_stay_in_step, writes_count_everywhere};
+pub use laws::{
+    changes_are_routed_once_everywhere, messages_stay_written, worlds_stay_in_step,
+    writes_count_everywhere,
+};
