@@ -2,8 +2,14 @@
 #![tactic(auto)]
 
 mod capture;
+mod judge;
+mod outcome;
+mod run;
 #[cfg(test)]
 mod tests;
 
 pub use capture::captured;
+pub use judge::Judge;
+pub use outcome::Outcome;
+pub use run::{Capturing, run_rows};
 pub use sds_rows::Done;

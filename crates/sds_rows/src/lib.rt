@@ -1,6 +1,7 @@
 //! A node's tables: their rows in one order, the rules on steps, and steps with their undo.
 #![tactic(auto)]
 
+mod copies;
 mod keys;
 mod laws;
 mod references;
