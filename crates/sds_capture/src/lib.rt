@@ -4,6 +4,8 @@
 mod capture;
 mod judge;
 mod outcome;
+mod own_rows;
+mod own_steps;
 mod run;
 #[cfg(test)]
 mod tests;

@@ -5,3 +5,6 @@ pub mod Judging
 pub mod Comparing
 pub mod Keeping
 pub mod LeadingBack
+pub mod Pairs
+pub mod Looking
+pub mod Fitting

@@ -5,8 +5,10 @@ mod copies;
 mod keys;
 mod laws;
 mod references;
+pub mod row_values;
 mod search;
 mod step_rules;
+mod sums;
 mod tables;
 #[cfg(test)]
 mod tests;
