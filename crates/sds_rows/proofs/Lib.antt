@@ -8,3 +8,6 @@ pub mod LeadingBack
 pub mod Pairs
 pub mod Looking
 pub mod Fitting
+pub mod Printed
+pub mod Held
+pub mod Longer

@@ -4,6 +4,7 @@
 mod copies;
 mod keys;
 mod laws;
+mod printing;
 mod references;
 pub mod row_values;
 mod search;

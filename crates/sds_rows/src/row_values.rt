@@ -212,11 +212,7 @@ pub fn new_key(alloc: Global, defs: &[TableDef], row: &LoadRow) -> Result<Key, N
 }
 
 /// The values that an insert begins with: null but for its key.
-pub fn key_alone(
-    alloc: Global,
-    defs: &[TableDef],
-    row: &LoadRow,
-) -> Result<Vec<Value>, NoMemory>
+pub fn key_alone(alloc: Global, defs: &[TableDef], row: &LoadRow) -> Result<Vec<Value>, NoMemory>
     ensures { IfOk result (λ values. values.items ≡ put.key_alone defs.now row.now) }
 {
     let key = new_key(alloc, defs, row)?;
