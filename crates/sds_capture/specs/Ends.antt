@@ -1,7 +1,9 @@
 -- How a run of rows ends, as the code tells it.
-use Rattle.std.specs.Prelude.{ℕ, ◌+◌, List, [], ◌∷◌}
+use Rattle.std.specs.Prelude.{ℕ, ◌+◌, List, [], ◌∷◌, Result, Ok, Err}
 use Rattle.std.specs.Str.{chars}
 use Rattle.sds_types.specs.declared.row.TableRow.{TableRow}
+use Rattle.sds_types.specs.declared.tx_row.Broken.{Broken}
+use Rattle.sds_types.specs.declared.tx_row.Broken.TheVariants as broken
 use Rattle.sds_types.specs.declared.conflict.Resolution.{Resolution}
 use Rattle.sds_trade.specs.rules.Captured as plain
 use Rattle.sds_trade.specs.rules.Runs.{RunEnd, run, with_done}
@@ -25,6 +27,16 @@ abbrev pub dones_of : Outcome → List Done
 dones_of (outcome.Done dones) = dones
 dones_of outcome.Ignored = []
 dones_of (outcome.Broken row rule) = []
+
+-- the same of an own write, which is never ignored; out of memory stands for no end
+abbrev pub write_end : Result (List Done) Broken → List TableRow → RunEnd
+write_end (Ok dones) rows = Made (without_undos dones) rows
+write_end (Err (broken.Rule row rule)) rows = Refused row rule
+write_end (Err broken.NoMemory) rows = Ignored
+
+abbrev pub write_dones : Result (List Done) Broken → List Done
+write_dones (Ok dones) = dones
+write_dones (Err broken) = []
 
 -- rows with their numbers, which go by the row and by its place
 abbrev pub numbered : {R : Type 0} → (ℕ → R → ℕ) → ℕ → List R → List (ℕ × R)

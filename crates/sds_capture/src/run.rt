@@ -16,6 +16,7 @@ use sds_types::{Config, Resolution, RowStep, Rule};
 use std::alloc::Global;
 
 /// Where steps are made: what decides which of them are captured.
+#[derive(Drop)]
 pub struct Capturing<'a> {
     pub config: &'a Config,
     /// The group of the node.
