@@ -11,3 +11,4 @@ pub mod Fitting
 pub mod Printed
 pub mod Held
 pub mod Longer
+pub mod Children
