@@ -10,6 +10,10 @@ mod own_write;
 mod run;
 #[cfg(test)]
 mod tests;
+#[cfg(test)]
+mod tests_shop;
+#[cfg(test)]
+mod tests_writes;
 
 pub use capture::captured;
 pub use judge::Judge;
