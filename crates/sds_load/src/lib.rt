@@ -4,5 +4,11 @@
 mod batches;
 mod bodies;
 mod settings;
+#[cfg(test)]
+mod tests;
+#[cfg(test)]
+mod tests_parts;
+#[cfg(test)]
+mod tests_told;
 
 pub use batches::prepare;
