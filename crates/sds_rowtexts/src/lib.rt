@@ -5,6 +5,10 @@ mod addends;
 mod keys;
 mod names;
 mod rows;
+#[cfg(test)]
+mod tests;
+#[cfg(test)]
+mod tests_parts;
 mod texts;
 mod values;
 
