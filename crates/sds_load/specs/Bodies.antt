@@ -1,5 +1,5 @@
 -- The body of a batch of which some rows are read.
-use Rattle.std.specs.Prelude.{ℕ, List, ◌++◌, Option, None, Some, Result}
+use Rattle.std.specs.Prelude.{ℕ, List, [], ◌++◌, Option, None, Some, option_and_then, slice_get, Result}
 use Rattle.std.specs.List.{filter_map}
 use Rattle.std.specs.Result.{result_err, result_ok}
 use Rattle.sds_types.specs.declared.load_row.LoadRow.{LoadRow}
@@ -21,3 +21,12 @@ body_after rows readings =
 abbrev pub body_from : Option Rule → ℕ → List LoadRow → List Reading → Body
 body_from None number rows rest = body_after rows rest
 body_from (Some rule) number rows rest = body.Broken number rule
+
+-- the rows of a body, where they are read
+abbrev pub rows_in : Body → List LoadRow
+rows_in (body.Rows rows) = rows
+rows_in (body.Broken number rule) = []
+
+-- the place of the conflict setting for the table at a place
+abbrev pub setting_at : List (Option ℕ) → ℕ → Option ℕ
+setting_at settings table = option_and_then (λ (place : Option ℕ). place) (slice_get settings table)

@@ -3,6 +3,7 @@
 
 mod batches;
 mod bodies;
+mod outcomes;
 mod settings;
 #[cfg(test)]
 mod tests;
@@ -12,3 +13,5 @@ mod tests_parts;
 mod tests_told;
 
 pub use batches::prepare;
+pub use outcomes::outcome;
+pub use sds_capture::Outcome;
