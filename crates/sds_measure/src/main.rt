@@ -1,7 +1,8 @@
-//! A program that measures symds: how fast documents are written and read, and an own write of rows.
-//! Without words it reads the worked documents and does a little of what it measures, and prints what
-//! came of it, the same each time; with a number of megabytes it does so much of it and a write of as
-//! many rows as one may have, and prints milliseconds, megabytes a second and rows a second.
+//! A program that measures symds: how fast documents are written and read, and an own write of
+//! rows. Without words it reads the worked documents and does a little of what it measures, and
+//! prints what came of it, the same each time; with a number of megabytes it does so much of it and
+//! a write of as many rows as one may have, and prints milliseconds, megabytes a second and rows a
+//! second.
 #![tactic(auto)]
 
 ghost use Rattle.std.specs.Prelude.{◌≤◌, IfOk};
