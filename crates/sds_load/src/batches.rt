@@ -8,13 +8,15 @@ use sds_base::{NoMemory, Twin};
 use sds_types::{BatchDoc, Config, Prepared, Way};
 use std::alloc::Global;
 
-/// A batch on its way to a node, read for that node's tables: its sender, its channel's place, which
-/// is none where no channel has that name, its number, the place of each table's conflict setting
-/// between the two groups, and its body. The body has the rows that the transforms at LOAD make of
-/// the batch's rows, in their order, each read as values under the batch's form of bytes and
-/// numbered, from 1, by the row of the document that it comes from; or it is broken by the first of
-/// them that breaks one of the first five rules, and tells that row's number with its first broken
-/// rule (the SymmetricDS guide's chapters on loading and on conflicts; the rules are symds' own).
+/// A batch on its way to a node, read for that node's tables: its sender, its channel's place, or
+/// none where no channel has that name, its number, the place of each table's conflict setting
+/// between the two groups, and its body.
+///
+/// The body has the rows that the transforms at LOAD make of the batch's rows, in their order, each
+/// read as values under the batch's form of bytes and numbered, from 1, by the row of the document
+/// that it comes from. Where some of them break one of the first five rules, it is instead the
+/// number of the first that does, with the first rule that this one breaks (the SymmetricDS guide's
+/// chapters on loading and on conflicts; the rules are symds' own).
 ///
 /// A batch has fewer than 2^32 rows.
 pub fn prepare(

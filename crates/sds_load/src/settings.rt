@@ -42,8 +42,8 @@ pub(crate) fn settings_of(
     Ok(List::of(settings))
 }
 
-/// The place of the conflict setting of a table for a way. A place past 32 bits, where no setting of
-/// a configuration stands, is out of memory.
+/// The place of the conflict setting of a table for a way. A place past 32 bits, where no setting
+/// of a configuration stands, is out of memory.
 fn setting_place(config: &Config, way: &Way, table: usize) -> Result<Option<u32>, NoMemory>
     ensures { IfOk result (λ place. place ≡ outcome.setting_place config.now way.now table) }
 {

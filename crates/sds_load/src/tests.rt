@@ -1,4 +1,5 @@
-//! Batches with what they are prepared as: each line of a table is a batch in words and what is due.
+//! Batches with what they are prepared as: each line of a table is a batch in words and what is
+//! due.
 use crate::prepare;
 use crate::tests_parts::{config, row, way};
 use crate::tests_told::{told_body, told_head};
@@ -64,9 +65,14 @@ fn a_batch_has_its_channel_and_settings(rt: HostRuntime) -> Result<(), Fail> {
 /// Rows of batches from a store up.
 const BODIES: &str = "\
 none => rows
-insert t id,name 1,Tea|update v price 2.5 1|delete u id . 3 => rows; 1 insert 0 key 1 new 1 Tea; 2 update 2 key 1 new 250; 3 delete 1 key 3 new
-insert w id,name,price,code 1,Te,2.5,AQI=|insert t id 2 => rows; 1 insert 0 key 1 new 1 Te.1.2; 1 insert 1 key 1 new 1 Te 250 add 500; 2 insert 0 key 2 new 2
-update w name,price Te,1 1|delete w id . 2|delete t id . 3 => rows; 1 update 0 key 1 new null Te null; 1 update 1 key 1 new null Te 100 add unknown; 2 delete 0 key 2 new; 3 delete 0 key 3 new
+insert t id,name 1,Tea|update v price 2.5 1|delete u id . 3 \
+    => rows; 1 insert 0 key 1 new 1 Tea; 2 update 2 key 1 new 250; 3 delete 1 key 3 new
+insert w id,name,price,code 1,Te,2.5,AQI=|insert t id 2 \
+    => rows; 1 insert 0 key 1 new 1 Te.1.2; 1 insert 1 key 1 new 1 Te 250 add 500; \
+    2 insert 0 key 2 new 2
+update w name,price Te,1 1|delete w id . 2|delete t id . 3 \
+    => rows; 1 update 0 key 1 new null Te null; 1 update 1 key 1 new null Te 100 add unknown; \
+    2 delete 0 key 2 new; 3 delete 0 key 3 new
 insert t id 1|insert t id x|insert x id 1 => broken 2 BadValue
 insert x id 1|insert t id x => broken 1 UnknownTable
 insert t id,name 1,Green|insert t id x => broken 1 TooLong

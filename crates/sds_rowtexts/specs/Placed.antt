@@ -1,5 +1,6 @@
 -- Columns found by their names, and fields beside the places of their columns.
-use Rattle.std.specs.Prelude.{ℕ, Bool, false, if◌then◌else◌, List, Option, None, Some, option_and_then, slice_get}
+use Rattle.std.specs.Prelude.{ℕ, Bool, false, if◌then◌else◌, List, slice_get}
+use Rattle.std.specs.Prelude.{Option, None, Some, option_and_then}
 use Rattle.std.specs.List.{filter_map}
 use Rattle.std.specs.Option.{option_map_or}
 use Rattle.sds_value.specs.declared.kind.Binary.{Binary}

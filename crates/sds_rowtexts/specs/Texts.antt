@@ -7,7 +7,8 @@ use Rattle.sds_value.specs.declared.row.DocRow.{DocRow}
 use Rattle.sds_value.specs.declared.table.ColumnDef.{ColumnDef}
 use Rattle.sds_value.specs.declared.table.TableDef.{TableDef}
 use Rattle.sds_types.specs.declared.rule.Rule.{Rule}
-use Rattle.sds_types.specs.declared.rule.Rule.TheVariants.{UnknownColumn, MissingKey, BadValue, TooLong}
+use Rattle.sds_types.specs.declared.rule.Rule.TheVariants.{UnknownColumn, MissingKey}
+use Rattle.sds_types.specs.declared.rule.Rule.TheVariants.{BadValue, TooLong}
 use Rattle.sds_trade.specs.rules.DocRows.{are_columns, counts_fit, field_in, key_fields, tells_key}
 use Rattle.sds_trade.specs.rules.LoadRows.{named_value, values_in}
 use Rattle.sds_trade.specs.rules.Places.{column_place}

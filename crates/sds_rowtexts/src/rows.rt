@@ -16,16 +16,16 @@ use std::alloc::Global;
 /// 1. `UnknownTable`: no table has its table's name.
 /// 2. `UnknownColumn`: a name among its keys or its columns is no column's or stands twice in its
 ///    list, or it has another number of fields than its event asks for.
-/// 3. `MissingKey`: its key names aren't those of the table's key, in whatever order, or a column of
-///    the key is null or absent among the fields that tell the key: of an insert the new values,
+/// 3. `MissingKey`: its key names aren't those of the table's key, in whatever order, or a column
+///    of the key is null or absent among the fields that tell the key: of an insert the new values,
 ///    else the old key's.
-/// 4. `BadValue`: a text, new, old or of the key, doesn't read as its column's kind or is out of the
-///    kind's range. The form settles how bytes are written.
+/// 4. `BadValue`: a text, new, old or of the key, doesn't read as its column's kind or is out of
+///    the kind's range. The form settles how bytes are written.
 /// 5. `TooLong`: a text, new, old or of the key, is longer than its column takes.
 ///
-/// The row has this number, and its key in the order of the table's key. Where an update or a delete
-/// hasn't the old values, nothing is told of what it adds. A place past 32 bits, where no table of a
-/// configuration stands, is out of memory.
+/// The row has this number, and its key in the order of the table's key. Where an update or a
+/// delete hasn't the old values, nothing is told of what it adds. A place past 32 bits, where no
+/// table of a configuration stands, is out of memory.
 pub fn read_row(
     alloc: Global,
     defs: &[TableDef],

@@ -1,23 +1,29 @@
-//! Rows of texts with what they are read as: each line of a table is a row of words and what is due.
+//! Rows of texts with what they are read as: each line of a table is a row of words and what is
+//! due.
 use crate::tests_parts::told;
 use sds_types::Add;
 use sds_value::Binary;
 use std::test::Fail;
 
-/// Each event: the key in its table's order, whatever the order of its names, and the columns in the
-/// row's order.
+/// Each event: the key in its table's order, whatever the order of its names, and the columns in
+/// the row's order.
 const READ: &str = "\
 insert s id id 1 . none => 7 insert 0 key 1; columns 0; new 1
-insert t area,id id,area,name,price 1,n,Tea,2.5 . none => 7 insert 1 key 'n' 1; columns 0 1 2 3; new 1 'n' 'Tea' units 250
-insert t id,area price,area,id +2,n,01 . none => 7 insert 1 key 'n' 1; columns 3 1 0; new units 200 'n' 1
-insert t id,area id,area,name 1,,~ . 1,n,~ => 7 insert 1 key '' 1; columns 0 1 2; new 1 '' null; old 1 'n' null
-update t id,area name,price Tea,~ 1,n Ink,1 => 7 update 1 key 'n' 1; columns 2 3; new 'Tea' null; old 'Ink' units 100
+insert t area,id id,area,name,price 1,n,Tea,2.5 . none \
+    => 7 insert 1 key 'n' 1; columns 0 1 2 3; new 1 'n' 'Tea' units 250
+insert t id,area price,area,id +2,n,01 . none \
+    => 7 insert 1 key 'n' 1; columns 3 1 0; new units 200 'n' 1
+insert t id,area id,area,name 1,,~ . 1,n,~ \
+    => 7 insert 1 key '' 1; columns 0 1 2; new 1 '' null; old 1 'n' null
+update t id,area name,price Tea,~ 1,n Ink,1 \
+    => 7 update 1 key 'n' 1; columns 2 3; new 'Tea' null; old 'Ink' units 100
 update t area,id name Tea n,1 none => 7 update 1 key 'n' 1; columns 2; new 'Tea'
 update t id,area id,area 2,~ 1,n 1,n => 7 update 1 key 'n' 1; columns 0 1; new 2 null; old 1 'n'
 delete t id,area id,name . 1,n 1,Tea => 7 delete 1 key 'n' 1; columns 0 2; new; old 1 'Tea'
 delete t area,id name . n,1 none => 7 delete 1 key 'n' 1; columns 2; new
 delete t area,id . . n,1 . => 7 delete 1 key 'n' 1; columns; new; old
-insert t id,area id,area,code 1,n,AQI= . none => 7 insert 1 key 'n' 1; columns 0 1 4; new 1 'n' bytes.1.2
+insert t id,area id,area,code 1,n,AQI= . none \
+    => 7 insert 1 key 'n' 1; columns 0 1 4; new 1 'n' bytes.1.2
 ";
 
 /// Each rule broken in one way and another.
@@ -123,15 +129,25 @@ fn bytes_are_read_by_their_form(rt: HostRuntime) -> Result<(), Fail> {
 
 /// Twice the price is added, and the number is taken away once.
 const ADDED: &str = "\
-insert t id,area id,area,price 1,n,2.5 . none => 7 insert 1 key 'n' 1; columns 0 1 3; new 1 'n' units 250; to 3 500; to 0 -1
-insert t id,area id,area,price 1,n,2.5 . 4,n,2 => 7 insert 1 key 'n' 1; columns 0 1 3; new 1 'n' units 250; old 4 'n' units 200; to 3 500; to 0 -1
-insert t id,area id,area,price 0,n,~ . none => 7 insert 1 key 'n' 0; columns 0 1 3; new 0 'n' null; to 3 0; to 0 0
-update t id,area price 2.5 1,n 1 => 7 update 1 key 'n' 1; columns 3; new units 250; old units 100; to 3 300; to 0 0
-update t id,area price,id ~,4 1,n 1,3 => 7 update 1 key 'n' 1; columns 3 0; new null 4; old units 100 3; to 3 -200; to 0 -1
-update t id,area price,id 1,4 1,n ~,9 => 7 update 1 key 'n' 1; columns 3 0; new units 100 4; old null 9; to 3 200; to 0 5
-update t id,area price 2.5 1,n none => 7 update 1 key 'n' 1; columns 3; new units 250; to 3 unknown; to 0 unknown
-delete t id,area price . 1,n 1 => 7 delete 1 key 'n' 1; columns 3; new; old units 100; to 3 -200; to 0 0
-delete t id,area price . 1,n none => 7 delete 1 key 'n' 1; columns 3; new; to 3 unknown; to 0 unknown
+insert t id,area id,area,price 1,n,2.5 . none \
+    => 7 insert 1 key 'n' 1; columns 0 1 3; new 1 'n' units 250; to 3 500; to 0 -1
+insert t id,area id,area,price 1,n,2.5 . 4,n,2 \
+    => 7 insert 1 key 'n' 1; columns 0 1 3; new 1 'n' units 250; old 4 'n' units 200; \
+    to 3 500; to 0 -1
+insert t id,area id,area,price 0,n,~ . none \
+    => 7 insert 1 key 'n' 0; columns 0 1 3; new 0 'n' null; to 3 0; to 0 0
+update t id,area price 2.5 1,n 1 \
+    => 7 update 1 key 'n' 1; columns 3; new units 250; old units 100; to 3 300; to 0 0
+update t id,area price,id ~,4 1,n 1,3 \
+    => 7 update 1 key 'n' 1; columns 3 0; new null 4; old units 100 3; to 3 -200; to 0 -1
+update t id,area price,id 1,4 1,n ~,9 \
+    => 7 update 1 key 'n' 1; columns 3 0; new units 100 4; old null 9; to 3 200; to 0 5
+update t id,area price 2.5 1,n none \
+    => 7 update 1 key 'n' 1; columns 3; new units 250; to 3 unknown; to 0 unknown
+delete t id,area price . 1,n 1 \
+    => 7 delete 1 key 'n' 1; columns 3; new; old units 100; to 3 -200; to 0 0
+delete t id,area price . 1,n none \
+    => 7 delete 1 key 'n' 1; columns 3; new; to 3 unknown; to 0 unknown
 update t id,area price x 1,n 1 => BadValue
 ";
 

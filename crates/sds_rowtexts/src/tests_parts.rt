@@ -184,8 +184,8 @@ fn told_row(alloc: Global, row: &LoadRow) -> Result<String, NoMemory> {
     Ok(out)
 }
 
-/// What the row of words, as the seventh of its document, is read as: a row in words, or the name of
-/// the rule that it breaks.
+/// What the row of words, as the seventh of its document, is read as: a row in words, or the name
+/// of the rule that it breaks.
 pub(crate) fn told(
     alloc: Global,
     form: Binary,

@@ -1,5 +1,6 @@
 //! The texts of a row, read for its table.
-ghost use Rattle.std.specs.Prelude.{◌≡◌, ◌||◌, List, [], true, false, IfOk, OnOk, MatchOption, map, option_map};
+ghost use Rattle.std.specs.Prelude.{◌≡◌, ◌||◌, List, [], true, false, map, option_map};
+ghost use Rattle.std.specs.Prelude.{IfOk, OnOk, MatchOption};
 ghost use Rattle.std.specs.List.{filter_map, list_any, zip};
 ghost use Rattle.std.specs.Option.{option_map_or};
 ghost use Rattle.sds_value.specs.declared.row.Field.{Field};

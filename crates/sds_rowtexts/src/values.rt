@@ -54,7 +54,8 @@ fn read_at(
     field: &Field,
     refused: &mut Refused,
 ) -> Result<Value, NoMemory>
-    ensures value { IfOk result (λ value. value ≡ placed_value form columns.now (place, field.now)) }
+    ensures value { IfOk result (λ value.
+        value ≡ placed_value form columns.now (place, field.now)) }
     ensures bad { OnOk result (refused.new.bad ≡ (refused.old.bad
         || is_refused text.is_bad form columns.now (place, field.now))) }
     ensures long { OnOk result (refused.new.long ≡ (refused.old.long
