@@ -1,1 +1,4 @@
 pub mod Names
+pub mod Running
+pub mod Rows
+pub mod OwnRuns

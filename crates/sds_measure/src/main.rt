@@ -1,8 +1,11 @@
-//! A program that measures symds: how fast documents are written and read. Without words it reads the
-//! worked documents and does a little of what it measures, and prints what came of it, the same each
-//! time; with a number of megabytes it does so much of it, and prints milliseconds and megabytes a
+//! A program that measures symds: how fast documents are written and read, and an own write of
+//! rows. Without words it reads the worked documents and does a little of what it measures, and
+//! prints what came of it, the same each time; with a number of megabytes it does so much of it and
+//! a write of as many rows as one may have, and prints milliseconds, megabytes a second and rows a
 //! second.
 #![tactic(auto)]
+
+ghost use Rattle.std.specs.Prelude.{◌≤◌, IfOk};
 
 mod cases;
 mod listing;
@@ -10,21 +13,27 @@ mod measures;
 mod sample;
 #[cfg(test)]
 mod tests;
+mod writes;
 
 use cases::differing;
 use listing::Listing;
 use measures::{Measured, read_batches, write_batches};
 use sample::batch;
+use sds_types::limits::MOST_WRITE_ROWS;
 use std::alloc::Global;
 use std::rt::{Clock, Env, Files};
 use std::time::Instant;
 use std::{env, fs, io};
+use writes::write_rows;
 
 /// Rows of the batch that is written and read: its text has some 64 KiB.
 const ROWS: usize = 2_000;
 
 /// The batches of a run without words.
 const FEW: u64 = 2;
+
+/// The rows of the own write of a run without words.
+const FEW_ROWS: u32 = 100;
 
 /// The bytes of a megabyte, and those that a batch has at the least.
 const MEGABYTE: u64 = 1_000_000;
@@ -56,7 +65,39 @@ fn main(rt: HostRuntime) -> io::Result<()> {
     tell(&rt, "written", &written, start, asked.is_some())?;
     let start = Instant::now(&rt)?;
     let read = read_batches(rt.alloc(), ROWS, turns).map_err(|_| none())?;
-    tell(&rt, "read", &read, start, asked.is_some())
+    tell(&rt, "read", &read, start, asked.is_some())?;
+    tell_write(&rt, asked.is_some())
+}
+
+/// Makes an own write, each of whose rows has a reference, and tells of it.
+fn tell_write<R: Print + Clock + Alloc<A = Global>>(rt: &R, is_timed: bool) -> io::Result<()> {
+    let count = if is_timed {
+        MOST_WRITE_ROWS as u32
+    } else {
+        FEW_ROWS
+    };
+    let start = Instant::now(rt)?;
+    let rows = write_rows(rt.alloc(), count).map_err(|_| none())?;
+    if !is_timed {
+        return println!(rt; "own write {rows} rows");
+    }
+    let millis = millis_since(rt, start)?;
+    let speed = u64::from(rows).saturating_mul(1_000) / millis;
+    println!(rt; "own write {rows} rows in {millis} ms, {speed} rows/s")
+}
+
+/// The milliseconds since a moment, at least 1.
+fn millis_since<R: Clock>(rt: &R, start: Instant) -> io::Result<u64>
+    ensures { IfOk result (λ millis. 1 ≤ millis) }
+{
+    let elapsed = start.elapsed(rt)?;
+    Ok(
+        elapsed
+            .as_secs()
+            .saturating_mul(1_000)
+            .saturating_add(u64::from(elapsed.subsec_millis()))
+            .max(1),
+    )
 }
 
 /// Out of memory, as an error of input or output.
@@ -75,12 +116,7 @@ fn tell<R: Print + Clock>(
     if !is_timed {
         return println!(rt; "{what} {rows} rows, {bytes} bytes");
     }
-    let elapsed = start.elapsed(rt)?;
-    let millis = elapsed
-        .as_secs()
-        .saturating_mul(1_000)
-        .saturating_add(u64::from(elapsed.subsec_millis()))
-        .max(1);
+    let millis = millis_since(rt, start)?;
     let speed = bytes / 1_000 / millis;
     println!(rt; "{what} {rows} rows, {bytes} bytes in {millis} ms, {speed} MB/s")
 }

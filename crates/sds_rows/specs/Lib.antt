@@ -1,3 +1,5 @@
 pub mod Stored
 pub mod Searches
 pub mod Undoing
+pub mod Found
+pub mod Shown

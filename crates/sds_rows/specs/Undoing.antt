@@ -3,6 +3,7 @@ use Rattle.std.specs.Prelude.{◌≡◌, ℕ, ◌+◌, ◌<◌, ◌≤◌, List,
 use Rattle.std.specs.List.{insert, remove}
 use Rattle.sds_value.specs.declared.table.TableDef.{TableDef}
 use Rattle.sds_types.specs.declared.row.TableRow.{TableRow}
+use Rattle.sds_trade.specs.rules.Captured as plain
 use Rattle.sds_rows.specs.declared.undo.Done.{Done}
 use Rattle.sds_rows.specs.declared.undo.Undo.{Undo}
 use Rattle.sds_rows.specs.declared.undo.Inverse.{Inverse}
@@ -44,3 +45,10 @@ undos_of dones = map (λ (done : Done). done.undo) dones
 abbrev pub Undone : List Done → Stored → List TableRow → Type 0
 Undone dones tables before =
     LeadBack tables.defs (length tables.rows + tables.spare) (undos_of dones) tables.rows before
+
+-- a step that was made, without what undoes it
+abbrev pub without_undo : Done → plain.Done
+without_undo done = record { step = done.step; old = done.old }
+
+abbrev pub without_undos : List Done → List plain.Done
+without_undos dones = map without_undo dones

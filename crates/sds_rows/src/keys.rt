@@ -11,13 +11,20 @@ use sds_value::{ColumnDef, TableDef, Value};
 use std::cmp::Ordering;
 
 /// The columns of the table at a place.
-pub(crate) fn columns_at(defs: &[TableDef], table: u32) -> &[ColumnDef]
+pub(crate) fn columns_of(defs: &[TableDef], table: usize) -> &[ColumnDef]
     ensures { result.now ≡ place.columns_at defs.now table }
 {
-    match defs.get(table as usize) {
+    match defs.get(table) {
         Some(def) => def.columns.inner().as_slice(),
         None => &[],
     }
+}
+
+/// The columns of the table at a place of 32 bits.
+pub(crate) fn columns_at(defs: &[TableDef], table: u32) -> &[ColumnDef]
+    ensures { result.now ≡ place.columns_at defs.now table }
+{
+    columns_of(defs, table as usize)
 }
 
 /// The places of the key's columns of the table at a place.

@@ -1,11 +1,15 @@
 //! A node's tables: their rows in one order, the rules on steps, and steps with their undo.
 #![tactic(auto)]
 
+mod copies;
 mod keys;
 mod laws;
+mod printing;
 mod references;
+pub mod row_values;
 mod search;
 mod step_rules;
+mod sums;
 mod tables;
 #[cfg(test)]
 mod tests;

@@ -1,13 +1,16 @@
 //! References of rows: the rows that they refer to, and the rows that refer to a key.
-ghost use Rattle.std.specs.Prelude.{◌≡◌, ◌==◌, ◌&&◌, [], ◌∷◌};
+ghost use Rattle.std.specs.Prelude.{◌≡◌, ◌==◌, ◌<◌, ◌&&◌, [], ◌∷◌, length};
 ghost use Rattle.std.specs.List.{list_any};
+ghost use Rattle.std.specs.List.Sorted.{IsNonDecreasingBy};
+ghost use Rattle.sds_types.specs.declared.row.TableRow.{TableRow};
 ghost use Rattle.sds_trade.specs.rules.Steps.{rows_after, without_row};
 ghost use Rattle.sds_trade.specs.rules.Tables as stand;
+ghost use Rattle.sds_rows.specs.Searches.{is_reference_to, rows_of_table};
 
-use crate::keys::{columns_at, has_own_key, order_by_key};
-use crate::search::has_key;
+use crate::keys::{columns_at, columns_of, has_own_key, order_by_key};
+use crate::search::{has_key, rows_of_table};
 use sds_types::{Key, Row, RowStep, TableRow};
-use sds_value::{TableDef, Value};
+use sds_value::{ColumnDef, TableDef, Value};
 use std::slice;
 
 /// Whether a value is null.
@@ -132,13 +135,58 @@ fn refers_to(defs: &[TableDef], table: u32, key: &[Value], row: &TableRow) -> bo
     false
 }
 
-/// Whether a row but the one of a table with a key refers to that key.
-pub(crate) fn others_refer(defs: &[TableDef], rows: &[TableRow], table: u32, key: &[Value]) -> bool
+/// Whether one of these rows refers to a key, but for the row of a table that has that key.
+fn some_refers(defs: &[TableDef], rows: &[TableRow], table: u32, key: &[Value]) -> bool
     ensures { result ≡ list_any (stand.refers_to defs.now table (record { 0 = key.now }))
         (without_row defs.now rows.now table (record { 0 = key.now })) }
 {
     for row in rows {
         if refers_to(defs, table, key, row) && order_by_key(defs, row, table, key).is_ne() {
+            return true;
+        }
+    }
+    false
+}
+
+/// Whether one of these columns refers to a table.
+fn has_parent(columns: &[ColumnDef], table: u32) -> bool
+    ensures { result ≡ list_any (is_reference_to table) columns.now }
+{
+    for column in columns {
+        if column.parent == Some(table) {
+            return true;
+        }
+    }
+    false
+}
+
+/// Whether a row of the table at a place refers to a key of another table, but for the row that has
+/// that key.
+fn child_refers(
+    defs: &[TableDef],
+    rows: &[TableRow],
+    child: usize,
+    table: u32,
+    key: &[Value],
+) -> bool
+    requires known { child < length defs.now }
+    requires ordered { IsNonDecreasingBy (λ (row : TableRow). row.table) rows.now }
+    ensures { result ≡ list_any (stand.refers_to defs.now table (record { 0 = key.now }))
+        (without_row defs.now (rows_of_table child rows.now) table (record { 0 = key.now })) }
+{
+    has_parent(columns_of(defs, child), table)
+        && some_refers(defs, rows_of_table(rows, child), table, key)
+}
+
+/// Whether a row but the one of a table with a key refers to that key. Only the rows of tables with
+/// a column that refers to the table are looked at.
+pub(crate) fn others_refer(defs: &[TableDef], rows: &[TableRow], table: u32, key: &[Value]) -> bool
+    requires { stand.Ascend defs.now rows.now }
+    ensures { result ≡ list_any (stand.refers_to defs.now table (record { 0 = key.now }))
+        (without_row defs.now rows.now table (record { 0 = key.now })) }
+{
+    for (child, _) in defs.iter().enumerate() {
+        if child_refers(defs, rows, child, table, key) {
             return true;
         }
     }

@@ -105,6 +105,7 @@ fn misses_parent(defs: &[TableDef], rows: &[TableRow], step: &RowStep) -> bool
 
 /// Whether another row refers to the old key, which no row has after the step.
 fn leaves_children(defs: &[TableDef], rows: &[TableRow], step: &RowStep) -> bool
+    requires { Ascend defs.now rows.now }
     ensures { result ≡ judged.leaves_children defs.now rows.now step.now }
 {
     match step {

@@ -1,0 +1,2 @@
+-- The words that the contracts of loading share.
+pub mod Bodies
