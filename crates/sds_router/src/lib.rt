@@ -8,6 +8,10 @@ mod naming;
 mod places;
 mod routes;
 mod standing;
+#[cfg(test)]
+mod tests;
+#[cfg(test)]
+mod tests_rows;
 mod texts;
 mod wanted;
 
