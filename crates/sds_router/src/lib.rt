@@ -12,6 +12,8 @@ mod standing;
 mod tests;
 #[cfg(test)]
 mod tests_rows;
+#[cfg(test)]
+mod tests_targets;
 mod texts;
 mod wanted;
 

@@ -14,25 +14,25 @@ use std::test::Fail;
 
 /// A purchase that is put, one that goes from one store to another, one that is taken away, one
 /// without values, and one whose texts are empty.
-const PUT: Given = Given {
+pub(crate) const PUT: Given = Given {
     event: Event::Insert,
     new: [Some("7"), Some("001"), Some("store"), Some("2.50")],
     old: [None, None, None, None],
 };
 
-const MOVED: Given = Given {
+pub(crate) const MOVED: Given = Given {
     event: Event::Update,
     new: [Some("7"), Some("002"), None, Some("2.50")],
     old: [Some("7"), Some("001"), Some("x"), None],
 };
 
-const TAKEN: Given = Given {
+pub(crate) const TAKEN: Given = Given {
     event: Event::Delete,
     new: [None, None, None, None],
     old: [Some("7"), Some("001"), Some(""), Some("2.50")],
 };
 
-const BARE: Given = Given {
+pub(crate) const BARE: Given = Given {
     event: Event::Insert,
     new: [Some("7"), None, None, None],
     old: [None, None, None, None],
@@ -46,7 +46,11 @@ const EMPTY: Given = Given {
 
 /// What a router's expression says, by its kind and its text. Where the text isn't one of the kind
 /// there is nothing, and the test fails.
-fn parsed(alloc: Global, kind: RouterKind, text: &str) -> Result<RouterExpression, NoMemory> {
+pub(crate) fn parsed(
+    alloc: Global,
+    kind: RouterKind,
+    text: &str,
+) -> Result<RouterExpression, NoMemory> {
     match kind {
         RouterKind::Default => Ok(RouterExpression::Everything),
         RouterKind::Column => match column_tests(alloc, text)? {
@@ -285,7 +289,8 @@ fn named_by_none(
     named(alloc, &config, &rows, router)
 }
 
-const LOOKUP: &str = "LOOKUP_TABLE=stocked\nKEY_COLUMN=STORE_ID\nLOOKUP_KEY_COLUMN=place\n\
+pub(crate) const LOOKUP: &str =
+    "LOOKUP_TABLE=stocked\nKEY_COLUMN=STORE_ID\nLOOKUP_KEY_COLUMN=place\n\
 EXTERNAL_ID_COLUMN=store";
 
 const CHOICE: &str = "c.external_id in (select store from stocked where place=:STORE_ID)";
