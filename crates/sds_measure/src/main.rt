@@ -1,12 +1,13 @@
-//! A program that measures symds: how fast documents are written and read. Without words it reads the
-//! worked documents and does a little of what it measures, and prints what came of it, the same each
-//! time; with a number of megabytes it does so much of it, and prints milliseconds and megabytes a
-//! second.
+//! A program that measures symds: how fast documents are written and read, and changes are routed.
+//! Without words it reads the worked documents and does a little of what it measures, and prints what
+//! came of it, the same each time; with a number of megabytes it does so much of it, routes ten
+//! thousand changes, and prints milliseconds and megabytes or changes a second.
 #![tactic(auto)]
 
 mod cases;
 mod listing;
 mod measures;
+mod routing;
 mod sample;
 #[cfg(test)]
 mod tests;
@@ -56,7 +57,8 @@ fn main(rt: HostRuntime) -> io::Result<()> {
     tell(&rt, "written", &written, start, asked.is_some())?;
     let start = Instant::now(&rt)?;
     let read = read_batches(rt.alloc(), ROWS, turns).map_err(|_| none())?;
-    tell(&rt, "read", &read, start, asked.is_some())
+    tell(&rt, "read", &read, start, asked.is_some())?;
+    routing::measure(&rt, asked.is_some())
 }
 
 /// Out of memory, as an error of input or output.
