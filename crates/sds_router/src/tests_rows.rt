@@ -75,7 +75,8 @@ fn read_text(alloc: Global, kind: Kind, text: &Txt) -> Result<Value, NoMemory>
     }
 }
 
-/// The value of a text, or null. Where the column may not hold it there is none, and the test fails.
+/// The value of a text, or null. Where the column may not hold it there is none, and the test
+/// fails.
 #[tactic(auto, using(crate::proofs::Filled::held))]
 fn value_of(alloc: Global, column: &ColumnDef, text: Option<&str>) -> Result<Value, NoMemory>
     ensures { IfOk result (λ value. IsTrue (may_hold column.now value)) }

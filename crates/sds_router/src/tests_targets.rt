@@ -12,29 +12,35 @@ use std::test::Fail;
 /// changes may go back.
 type Join = (u32, u32, bool, bool);
 
-/// From the region to corp, to the stores, to the store of a purchase, to the stores that are looked
-/// up, and to other regions; and from corp to the stores.
+/// From the region up to corp.
 const UP: Join = (0, 0, true, false);
 
+/// From the region down to the stores.
 const DOWN: Join = (0, 1, true, false);
 
-const TO_STORE: Join = (0, 2, true, false);
-
-const LOOKED_UP: Join = (0, 3, true, false);
-
-const AROUND: Join = (0, 4, true, false);
-
-const OF_CORP: Join = (0, 5, true, false);
-
-/// Down to the stores, and to the store of a purchase, also back to the one that a change came from;
-/// the former disabled; and of the trigger of another table.
+/// The same, also back to the store that a change came from.
 const DOWN_AND_BACK: Join = (0, 1, true, true);
 
-const TO_STORE_AND_BACK: Join = (0, 2, true, true);
-
+/// The same, but disabled.
 const OFF: Join = (0, 1, false, true);
 
+/// The same, of the trigger of another table.
 const OF_OTHERS: Join = (1, 1, true, true);
+
+/// From the region down to the store of a purchase.
+const TO_STORE: Join = (0, 2, true, false);
+
+/// The same, also back to the store that a change came from.
+const TO_STORE_AND_BACK: Join = (0, 2, true, true);
+
+/// From the region down to the stores that are looked up.
+const LOOKED_UP: Join = (0, 3, true, false);
+
+/// From the region to other regions.
+const AROUND: Join = (0, 4, true, false);
+
+/// From corp down to the stores.
+const OF_CORP: Join = (0, 5, true, false);
 
 fn trigger(alloc: Global, source_table: u32) -> Result<TriggerDef, NoMemory> {
     Ok(TriggerDef {
