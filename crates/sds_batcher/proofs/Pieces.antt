@@ -1,8 +1,8 @@
 -- The pieces that are found change by change are the cut.
-use Rattle.std.proofs.Common.{◌≡◌, ℕ, zero, suc, ◌+◌, Bool, true, false, not, ◌&&◌, ◌==◌, List, [], ◌∷◌, ◌++◌, length, drop, append-nil, length-append, append_assoc, ◌≢◌, ◌≤◌, refl, sym, ap, ◌∙◌, arith, leb, map, cond}
+use Rattle.std.proofs.Common.{◌≡◌, ℕ, suc, ◌+◌, Bool, true, false, not, ◌&&◌, ◌==◌, List, [], ◌∷◌, ◌++◌, length, drop, append-nil, length-append, append_assoc, ◌≢◌, ◌≤◌, refl, sym, ap, ◌∙◌, arith, leb, map}
 use Rattle.std.proofs.lemmas.List.{drop_all}
 use Rattle.std.proofs.lemmas.Bool.Decides.{nat_tests}
-use Rattle.std.specs.Prelude.{if◌then◌else◌, slice_get, option_map, Option}
+use Rattle.std.specs.Prelude.{if◌then◌else◌, slice_get}
 use Rattle.sds_types.specs.declared.channel.Algorithm.{Algorithm}
 use Rattle.sds_types.specs.declared.channel.Algorithm.TheVariants.{Default, Transactional, Nontransactional}
 use Rattle.sds_types.specs.declared.cut.Cut.{Cut}

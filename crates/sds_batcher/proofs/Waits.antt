@@ -13,7 +13,7 @@ use Rattle.sds_types.specs.declared.row.Change.{Change}
 use Rattle.sds_trade.specs.rules.Batches.{batch_in, batches_of, is_for, lane_batches, lane_changes, peers_named, sorted_channels}
 use Rattle.sds_trade.specs.rules.Cuts.{cut, last_piece}
 use Rattle.sds_batcher.specs.Ends.{ends_piece, next_tx, pieces_to_come}
-use Rattle.sds_batcher.specs.Lanes.{batches_to_come, channel_batches, empty_lanes, lanes_to_come, last_batch, made_batch, next_waiting, numbered, waiting_of, with_all, with_each, with_waiting}
+use Rattle.sds_batcher.specs.Lanes.{batches_to_come, channel_batches, lanes_to_come, last_batch, made_batch, next_waiting, numbered, waiting_of, with_all, with_each, with_waiting}
 use Rattle.sds_batcher.specs.Order.{entry_of}
 use Rattle.sds_batcher.specs.declared.lanes.Waiting.{Waiting}
 use Rattle.sds_batcher.proofs.Pieces.{pieces_are}

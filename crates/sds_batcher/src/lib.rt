@@ -7,6 +7,8 @@ mod making;
 mod order;
 #[cfg(test)]
 mod tests;
+#[cfg(test)]
+mod tests_batches;
 
 pub use cutting::cut;
 pub use making::run;

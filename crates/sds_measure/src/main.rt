@@ -1,8 +1,8 @@
-//! A program that measures symds: how fast documents are written and read, and an own write of
-//! rows. Without words it reads the worked documents and does a little of what it measures, and
-//! prints what came of it, the same each time; with a number of megabytes it does so much of it and
-//! a write of as many rows as one may have, and prints milliseconds, megabytes a second and rows a
-//! second.
+//! A program that measures symds: how fast documents are written and read, rows of an own write are
+//! made, and changes are routed. Without words it reads the worked documents and does a little of
+//! what it measures, and prints what came of it, the same each time; with a number of megabytes it
+//! does so much of it, a write of as many rows as one may have, and a routing run of ten thousand
+//! changes, and prints milliseconds, megabytes, rows and changes a second.
 #![tactic(auto)]
 
 ghost use Rattle.std.specs.Prelude.{◌≤◌, IfOk};
@@ -10,6 +10,7 @@ ghost use Rattle.std.specs.Prelude.{◌≤◌, IfOk};
 mod cases;
 mod listing;
 mod measures;
+mod routing;
 mod sample;
 #[cfg(test)]
 mod tests;
@@ -66,7 +67,8 @@ fn main(rt: HostRuntime) -> io::Result<()> {
     let start = Instant::now(&rt)?;
     let read = read_batches(rt.alloc(), ROWS, turns).map_err(|_| none())?;
     tell(&rt, "read", &read, start, asked.is_some())?;
-    tell_write(&rt, asked.is_some())
+    tell_write(&rt, asked.is_some())?;
+    routing::measure(&rt, asked.is_some())
 }
 
 /// Makes an own write, each of whose rows has a reference, and tells of it.

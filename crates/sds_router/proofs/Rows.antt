@@ -36,7 +36,7 @@ held_suits : (null not_null fit : Bool) → elim null [ true ↦ not not_null | 
 held_suits true not_null fit held = refl
 held_suits false not_null fit held = held
 
-fits_columns : (columns : List ColumnDef) (row : Row) → IsRowOf columns row → FitColumns columns row.0
+pub fits_columns : (columns : List ColumnDef) (row : Row) → IsRowOf columns row → FitColumns columns row.0
 fits_columns columns row is = record {
   whole = is.whole;
   each = λ k d within. let at = get_or (zip columns row.0) k d in

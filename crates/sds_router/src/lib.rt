@@ -8,6 +8,12 @@ mod naming;
 mod places;
 mod routes;
 mod standing;
+#[cfg(test)]
+mod tests;
+#[cfg(test)]
+mod tests_rows;
+#[cfg(test)]
+mod tests_targets;
 mod texts;
 mod wanted;
 

@@ -2,3 +2,4 @@ pub mod Texts
 pub mod Printed
 pub mod Held
 pub mod Meant
+pub mod Filled

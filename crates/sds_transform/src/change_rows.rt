@@ -47,7 +47,7 @@ pub(crate) fn row_of_change(
 }
 
 /// The columns of the table at a place.
-fn columns_at(defs: &[TableDef], table: u32) -> &[ColumnDef]
+pub(crate) fn columns_at(defs: &[TableDef], table: u32) -> &[ColumnDef]
     ensures { result.now ≡ place.columns_at defs.now table }
 {
     match defs.get(table as usize) {

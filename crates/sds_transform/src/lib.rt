@@ -11,6 +11,8 @@ mod side;
 #[cfg(test)]
 mod tests;
 #[cfg(test)]
+mod tests_extract;
+#[cfg(test)]
 mod tests_parts;
 mod transforms;
 

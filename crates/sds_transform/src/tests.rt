@@ -123,31 +123,31 @@ fn each_kind_of_column(rt: HostRuntime) -> Result<(), Fail> {
 }
 
 /// The key, a column under another name, and a constant of inserts alone.
-const THREE: [Column; 3] = [
+pub(crate) const THREE: [Column; 3] = [
     ("id", "id", true, "*", Part::Copy),
     ("o", "a", false, "*", Part::Left(2)),
     ("k", "", false, "I", Part::Const("new")),
 ];
 
 /// A column in the place of one of the source's, one that is taken away, and a further one.
-const OTHERS: [Column; 3] = [
+pub(crate) const OTHERS: [Column; 3] = [
     ("z", "", false, "UI", Part::Const("new")),
     ("a", "b", false, "*", Part::Copy),
     ("b", "", false, "I", Part::Remove),
 ];
 
 /// Another key, for which the source's is taken away, and a mark of deletes.
-const OTHER_KEY: [Column; 3] = [
+pub(crate) const OTHER_KEY: [Column; 3] = [
     ("n", "id", true, "*", Part::Copy),
     ("id", "", false, "*", Part::Remove),
     ("gone", "", false, "D", Part::Const("yes")),
 ];
 
 /// A mark of deletes alone.
-const MARK: [Column; 1] = [("gone", "", false, "D", Part::Const("yes"))];
+pub(crate) const MARK: [Column; 1] = [("gone", "", false, "D", Part::Const("yes"))];
 
 /// The same, the key beside it being another one.
-const BOTH_KEYS: [Column; 2] = [
+pub(crate) const BOTH_KEYS: [Column; 2] = [
     ("n", "a", true, "*", Part::Copy),
     ("gone", "", false, "D", Part::Const("yes")),
 ];

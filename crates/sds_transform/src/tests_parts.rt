@@ -243,7 +243,8 @@ fn put_fields(fields: &List<Field>, out: &mut String) -> Result<(), NoMemory> {
     Ok(())
 }
 
-fn put_row(row: &DocRow, out: &mut String) -> Result<(), NoMemory> {
+/// Adds a row in words.
+pub(crate) fn put_row(row: &DocRow, out: &mut String) -> Result<(), NoMemory> {
     out.push_str(match row.event {
         Event::Insert => "insert ",
         Event::Update => "update ",
