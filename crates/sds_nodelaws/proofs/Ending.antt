@@ -19,6 +19,8 @@ use Rattle.sds_types.specs.declared.row.RowStep.{RowStep}
 use Rattle.sds_types.specs.declared.row.TableRow.{TableRow}
 use Rattle.sds_types.specs.declared.tx_row.TxRow.{TxRow}
 use Rattle.sds_types.specs.declared.write_answer.WriteRefusal.TheVariants.{OldNumber, GapNumber, TooManyRows}
+use Rattle.sds_trade.proofs.RunKeeps.{batches_go_by_step, writes_go_by_step}
+use Rattle.sds_trade.specs.laws.Runs.{rows_after_all}
 use Rattle.sds_trade.specs.rules.Captured.{Done, overflows}
 use Rattle.sds_trade.specs.rules.Outcomes.{batch_judge, by_body, by_channel, outcome_of_batch, with_number}
 use Rattle.sds_trade.specs.rules.OwnWrites.{outcome_of_write, own_judge}
@@ -48,47 +50,35 @@ steps_in end = map (λ (done : Done). done.step) (dones_of (Some end))
 abbrev StepsMake : List TableDef → List TableRow → RunEnd → Type 0
 StepsMake defs rows end = rows_after_run rows (Some end) ≡ fold (rows_after defs) rows (steps_in end)
 
-one_step : (defs : List TableDef) (rows : List TableRow) (step : RowStep) (end : RunEnd) → StepsMake defs (rows_after defs rows step) end
-    → StepsMake defs rows (with_done (done_of defs rows step) end)
-one_step defs rows step (Made dones after) same = same
-one_step defs rows step Ignored same = refl
-one_step defs rows step (Refused number rule) same = refl
+made_steps : (defs : List TableDef) (rows : List TableRow) (dones : List Done)
+    → rows_after_all defs rows dones ≡ fold (rows_after defs) rows (map (λ (done : Done). done.step) dones)
+made_steps defs rows [] = refl
+made_steps defs rows (done ∷ dones) = made_steps defs (rows_after defs rows done.step) dones
 
-run_steps : {R : Type 0} (defs : List TableDef) (overflow : RowStep → Bool) (judge : List TableRow → R → Resolution) (rows : List TableRow) (items : List (ℕ × R))
-    → StepsMake defs rows (run defs overflow judge rows items)
-run_steps defs overflow judge rows [] = refl
-run_steps {R} defs overflow judge rows (next ∷ later) =
-    on (by_step_rules defs overflow rows (judge rows next.1)) (λ step. run_steps defs overflow judge (rows_after defs rows step) later) (run_steps defs overflow judge rows later)
+write_steps : (config : Config) (group : List ℕ) (waiting : ℕ) (rows : List TableRow) (tx : List TxRow)
+    → StepsMake config.tables rows (outcome_of_write config group waiting rows tx)
+write_steps config group waiting rows tx = on (outcome_of_write config group waiting rows tx) refl
   where
-    on : (what : Resolution) → ((step : RowStep) → StepsMake defs (rows_after defs rows step) (run defs overflow judge (rows_after defs rows step) later))
-        → StepsMake defs rows (run defs overflow judge rows later)
-        → StepsMake defs rows (elim what [
-          | Apply step ↦ with_done (done_of defs rows step) (run defs overflow judge (rows_after defs rows step) later)
-          | SkipRow ↦ run defs overflow judge rows later
-          | SkipBatch ↦ Ignored
-          | Broken rule ↦ Refused next.0 rule
-        ])
-    on (Apply step) made skipped = one_step defs rows step (run defs overflow judge (rows_after defs rows step) later) (made step)
-    on SkipRow made skipped = skipped
-    on SkipBatch made skipped = refl
-    on (Broken rule) made skipped = refl
+    on : (end : RunEnd) → outcome_of_write config group waiting rows tx ≡ end → StepsMake config.tables rows (outcome_of_write config group waiting rows tx)
+    on (Made dones after) is = subst (StepsMake config.tables rows) (sym is)
+        (writes_go_by_step config group waiting rows after tx dones is ∙ made_steps config.tables rows dones)
+    on Ignored is = subst (StepsMake config.tables rows) (sym is) refl
+    on (Refused number rule) is = subst (StepsMake config.tables rows) (sym is) refl
 
-batch_steps : (config : Config) (group : List ℕ) (waiting : ℕ) (rows : List TableRow) (batch : Prepared) → StepsMake config.tables rows (outcome_of_batch config group waiting rows batch)
-batch_steps config group waiting rows batch = on batch.channel
+batch_steps : (config : Config) (group : List ℕ) (waiting : ℕ) (rows : List TableRow) (batch : Prepared)
+    → StepsMake config.tables rows (outcome_of_batch config group waiting rows batch)
+batch_steps config group waiting rows batch = on (outcome_of_batch config group waiting rows batch) refl
   where
-    in_body : (b : Body) → StepsMake config.tables rows (by_body config group waiting rows batch b)
-    in_body (body.Broken number rule) = refl
-    in_body (body.Rows made) = run_steps config.tables (overflows config group true waiting) (batch_judge config batch) rows (map with_number made)
-
-    on : (channel : Option ℕ) → StepsMake config.tables rows (by_channel config group waiting rows batch channel)
-    on None = refl
-    on (Some channel) = in_body batch.body
+    on : (end : RunEnd) → outcome_of_batch config group waiting rows batch ≡ end → StepsMake config.tables rows (outcome_of_batch config group waiting rows batch)
+    on (Made dones after) is = subst (StepsMake config.tables rows) (sym is)
+        (batches_go_by_step config group waiting rows after batch dones is ∙ made_steps config.tables rows dones)
+    on Ignored is = subst (StepsMake config.tables rows) (sym is) refl
+    on (Refused number rule) is = subst (StepsMake config.tables rows) (sym is) refl
 
 act_steps : (config : Config) (opening : State) (waiting : ℕ) (rows : List TableRow) (act : Act)
     → rows_after_run rows (run_end_of config opening waiting rows act)
     ≡ fold (rows_after config.tables) rows (map (λ (done : Done). done.step) (dones_of (run_end_of config opening waiting rows act)))
-act_steps config opening waiting rows (Wrote writer number tx) =
-    run_steps {R = TxRow} config.tables (overflows config opening.me.group false waiting) (own_judge config.tables) rows (enumerate_from 1 tx)
+act_steps config opening waiting rows (Wrote writer number tx) = write_steps config opening.me.group waiting rows tx
 act_steps config opening waiting rows (Loaded channel batch) = batch_steps config opening.me.group waiting rows batch
 act_steps config opening waiting rows (Opened group external token) = refl
 act_steps config opening waiting rows (Joined kept) = refl
