@@ -13,3 +13,5 @@ pub mod Everywhere
 pub mod Whole
 pub mod Keeping
 pub mod Written
+pub mod Progress
+pub mod AnswersInOrder

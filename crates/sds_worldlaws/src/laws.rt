@@ -1,5 +1,6 @@
 //! Laws of every world.
 ghost use Rattle.sds_worldlaws.specs.Nodes.{RoutedOnceEverywhere, WritesCountEverywhere};
+ghost use Rattle.sds_worldlaws.specs.Progress.{RepliesAnswerInOrder, TakenRepliesCount};
 ghost use Rattle.sds_worldlaws.specs.Stepping.{WorldsStayInStep};
 ghost use Rattle.sds_worldlaws.specs.Written.{MessagesStayWritten};
 
@@ -31,4 +32,11 @@ pub fn worlds_stay_in_step()
 /// message's places.
 pub fn messages_stay_written()
     ensures stay { MessagesStayWritten }
+{}
+
+/// A reply that has an acknowledgement for each batch of its message names them in the message's
+/// order; and a reply that is taken acknowledges each batch that it tells as loaded.
+pub fn replies_count()
+    ensures order { RepliesAnswerInOrder }
+    ensures count { TakenRepliesCount }
 {}
