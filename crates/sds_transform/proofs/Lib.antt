@@ -1,4 +1,2 @@
 pub mod Texts
-pub mod Printed
-pub mod Held
 pub mod Meant
