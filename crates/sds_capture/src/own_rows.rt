@@ -1,88 +1,20 @@
 //! Own rows as rows of texts.
 ghost use Rattle.std.specs.Prelude.{◌≡◌, IfOk, [], drop, length, map, take, unwrap_or};
 ghost use Rattle.sds_value.specs.declared.row.Event.TheVariants.{Insert, Update, Delete};
-ghost use Rattle.sds_value.specs.declared.table.ColumnDef.{ColumnDef};
 ghost use Rattle.sds_trade.specs.rules.OwnWrites as own;
 ghost use Rattle.sds_trade.specs.rules.Places as place;
 
 use sds_base::{List, NoMemory, Twin, Txt};
+use sds_rowvalues::{column_names, columns_at, key_names, no_name, table_place};
 use sds_types::TxRow;
-use sds_value::{ColumnDef, DocRow, Event, Field, TableDef};
+use sds_value::{DocRow, Event, Field, TableDef};
 use std::alloc::Global;
-
-/// The place of the table of a name.
-fn table_place(defs: &[TableDef], name: &Txt) -> Option<usize>
-    ensures { result ≡ place.table_place defs.now name.now }
-{
-    defs.iter().position(|def| def.name == *name)
-}
 
 /// The place of the table of a name, or that after the last one.
 fn table_or_end(defs: &[TableDef], name: &Txt) -> usize
     ensures { result ≡ unwrap_or (place.table_place defs.now name.now) (length defs.now) }
 {
     table_place(defs, name).unwrap_or(defs.len())
-}
-
-/// The columns of the table at a place.
-pub(crate) fn columns_at(defs: &[TableDef], table: usize) -> &[ColumnDef]
-    ensures { result.now ≡ place.columns_at defs.now table }
-{
-    match defs.get(table) {
-        Some(def) => def.columns.inner().as_slice(),
-        None => &[],
-    }
-}
-
-/// The places of the key's columns of the table at a place.
-fn key_places(defs: &[TableDef], table: usize) -> &[u32]
-    ensures { result.now ≡ place.key_places defs.now table }
-{
-    match defs.get(table) {
-        Some(def) => def.key.inner().as_slice(),
-        None => &[],
-    }
-}
-
-/// The names of columns.
-fn names_of(alloc: Global, columns: &[ColumnDef]) -> Result<List<Txt>, NoMemory>
-    ensures { IfOk result (λ names. names
-        ≡ map (λ (column : ColumnDef). column.name) columns.now) }
-{
-    let mut names = Vec::new(alloc);
-    for column in columns {
-        names.push(column.name.twin(alloc)?)?;
-    }
-    Ok(List::of(names))
-}
-
-/// The text without characters.
-fn no_text(alloc: Global) -> Txt
-    ensures { result ≡ [] }
-{
-    Txt::of(String::new(alloc))
-}
-
-/// The name of the column at a place, which past the last one is empty.
-fn name_at(alloc: Global, columns: &[ColumnDef], at: u32) -> Result<Txt, NoMemory>
-    ensures { IfOk result (λ name. name ≡ place.column_name columns.now at) }
-{
-    match columns.get(at as usize) {
-        Some(column) => column.name.twin(alloc),
-        None => Ok(no_text(alloc)),
-    }
-}
-
-/// The names of the key's columns of the table at a place.
-fn key_names(alloc: Global, defs: &[TableDef], table: usize) -> Result<List<Txt>, NoMemory>
-    ensures { IfOk result (λ names. names ≡ place.key_names defs.now table) }
-{
-    let columns = columns_at(defs, table);
-    let mut names = Vec::new(alloc);
-    for at in key_places(defs, table) {
-        names.push(name_at(alloc, columns, *at)?)?;
-    }
-    Ok(List::of(names))
 }
 
 /// The first so many fields and the others.
@@ -134,7 +66,7 @@ fn name_in(alloc: Global, field: &Field) -> Result<Txt, NoMemory>
     ensures { IfOk result (λ name. name ≡ own.name_in field.now) }
 {
     match field {
-        Field::Null => Ok(no_text(alloc)),
+        Field::Null => Ok(no_name(alloc)),
         Field::Text(text) => text.twin(alloc),
     }
 }
@@ -211,7 +143,7 @@ pub(crate) fn doc_of(alloc: Global, defs: &[TableDef], row: &TxRow) -> Result<Do
     let keys = key_names(alloc, defs, table)?;
     match row.event {
         Event::Insert => {
-            let columns = names_of(alloc, columns_at(defs, table))?;
+            let columns = column_names(alloc, columns_at(defs, table))?;
             insert_doc(alloc, columns, keys, row)
         }
         Event::Update => update_doc(alloc, keys, row),

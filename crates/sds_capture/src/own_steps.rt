@@ -6,10 +6,9 @@ ghost use Rattle.sds_trade.specs.rules.OwnWrites as own;
 ghost use Rattle.sds_trade.specs.rules.RowValues as put;
 ghost use Rattle.sds_trade.specs.rules.Tables.{has_row};
 
-use crate::own_rows::columns_at;
 use sds_base::{NoMemory, Twin};
 use sds_rows::Tables;
-use sds_rows::row_values::{gives, key_alone, new_key, new_value, put_values};
+use sds_rowvalues::{columns_at, gives, key_alone, new_key, new_value, put_values};
 use sds_types::{Key, LoadRow, Resolution, Row, RowStep, Rule};
 use sds_value::{ColumnDef, Event, TableDef, Value};
 use std::alloc::Global;

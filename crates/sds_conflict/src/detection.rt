@@ -3,8 +3,8 @@ ghost use Rattle.std.specs.Prelude.{◌≡◌, option_and_then, option_copied, s
 ghost use Rattle.sds_value.specs.declared.row.Event.TheVariants.{Update};
 ghost use Rattle.sds_trade.specs.rules.Conflicts as seen;
 
-use crate::row_values::{gives, new_value, old_value, same_value, value_at};
 use sds_base::List;
+use sds_rowvalues::{gives, new_value, old_value, same_value, value_at};
 use sds_types::{Config, ConflictDef, DetectType, LoadRow, Row, Verdict};
 use sds_value::{Event, Value};
 

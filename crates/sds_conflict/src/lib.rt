@@ -5,8 +5,6 @@
 mod detection;
 mod keyed_rows;
 mod resolution;
-mod row_values;
-mod sums;
 #[cfg(test)]
 mod tests;
 #[cfg(test)]

@@ -3,21 +3,27 @@ ghost use Rattle.std.specs.Prelude.{◌≡◌, IfOk, slice_get};
 ghost use Rattle.std.specs.Prelude.{option_and_then, option_copied, option_map};
 ghost use Rattle.sds_trade.specs.rules.Resolutions as resolved;
 ghost use Rattle.sds_trade.specs.rules.Conflicts.{target_row};
-ghost use Rattle.sds_conflict.specs.Found.{or_null};
+ghost use Rattle.sds_rowvalues.specs.Found.{or_null};
 
 use crate::KeyedRows;
 use crate::detection::{conflicts, setting_at};
-use crate::row_values::{
+use sds_base::{NoMemory, Twin};
+use sds_rowvalues::{
     gives, key_alone, new_key, new_value, old_value, order_of, put_values, sums_fit, value_at,
 };
-use crate::sums::lacks_addend;
-use sds_base::{NoMemory, Twin};
 use sds_types::{
     Config, ConflictDef, Key, LoadRow, Resolution, ResolveType, Row, RowStep, Rule, Verdict,
 };
 use sds_value::{Event, TableDef, Value};
 use std::alloc::Global;
 use std::cmp::Ordering;
+
+/// Whether the batch doesn't give an old value that an addend is reckoned from.
+fn lacks_addend(row: &LoadRow) -> bool
+    ensures { result ≡ resolved.lacks_addend row.now }
+{
+    row.adds.inner().iter().any(|addend| addend.add.is_none())
+}
 
 /// What is to be done with a row of a batch where these rows stand, by the setting at this place.
 /// First an addend without a value breaks `OldMissing`, and so does an old value that the detection

@@ -6,8 +6,8 @@ ghost use Rattle.sds_value.specs.Values.{value_order};
 ghost use Rattle.sds_trade.specs.rules.Tables as tables;
 
 use crate::KeyedRows;
-use crate::row_values::{key_places, same_value, value_at};
 use sds_base::List;
+use sds_rowvalues::{key_places, same_value, value_at};
 use sds_types::{Key, Row, TableRow};
 use sds_value::{TableDef, Value};
 
@@ -37,7 +37,7 @@ impl KeyedRows for ListRows {
 fn is_at(defs: &[TableDef], table: u32, key: &Key, row: &TableRow) -> bool
     ensures { result ≡ tables.is_at defs.now table key.now row.now }
 {
-    let places = key_places(defs, row.table);
+    let places = key_places(defs, row.table as usize);
     row.table == table
         && has_key(
             places,

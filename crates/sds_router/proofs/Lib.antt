@@ -1,4 +1,3 @@
 pub mod Lists
-pub mod Printed
 pub mod Rows
 pub mod Filled

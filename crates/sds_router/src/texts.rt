@@ -1,39 +1,15 @@
 //! The texts that routers compare: the printed values of rows, null being no text.
-ghost use Rattle.std.specs.Prelude.{◌≡◌, ◌||◌, IfOk, IfSome, IsTrue};
-ghost use Rattle.std.specs.Str.{chars};
-ghost use Rattle.sds_value.specs.declared.kind.Binary.TheVariants.{Base64};
-ghost use Rattle.sds_value.specs.Values.{fits, printed};
+ghost use Rattle.std.specs.Prelude.{◌≡◌, IfOk, IfSome};
 ghost use Rattle.sds_trade.specs.rules.Fitting.{FitColumns, FitsRow};
-ghost use Rattle.sds_trade.specs.rules.RoutedValues.{current_text, old_text, text_at, text_in, text_of};
+ghost use Rattle.sds_trade.specs.rules.RoutedValues.{current_text, old_text, text_at, text_in};
 ghost use Rattle.sds_trade.specs.rules.Routers.{tested_text};
-ghost use Rattle.sds_trade.specs.rules.Tables.{is_null};
 
-use crate::places::{column_at, column_place, columns_at, routed_row, value_at};
+use crate::places::{column_at, routed_row, value_at};
 use sds_base::{NoMemory, Txt};
+use sds_rowvalues::{column_place, columns_at, text_of};
 use sds_types::{Change, ColumnTest, Row};
-use sds_value::{Binary, ColumnDef, Kind, TableDef, Value};
+use sds_value::{ColumnDef, TableDef};
 use std::alloc::Global;
-
-/// The printed text of a value of a kind, or none of null.
-fn text_of(alloc: Global, kind: Kind, value: &Value) -> Result<Option<Txt>, NoMemory>
-    requires { IsTrue (is_null value.now || fits kind value.now) }
-    ensures { IfOk result (λ text. text ≡ text_of kind value.now) }
-{
-    if let Value::Null = value {
-        return Ok(None);
-    }
-    Ok(Some(printed(alloc, kind, value)?))
-}
-
-/// The printed text of a value that fits its kind.
-fn printed(alloc: Global, kind: Kind, value: &Value) -> Result<Txt, NoMemory>
-    requires { IsTrue (fits kind value.now) }
-    ensures { IfOk result (λ text. text ≡ chars (printed kind Base64 value.now)) }
-{
-    let mut bytes = Vec::new(alloc);
-    value.put(kind, Binary::Base64, &mut bytes)?;
-    Ok(Txt::of(String::from_utf8(bytes).unwrap()))
-}
 
 /// The printed text at a place of a row.
 pub(crate) fn text_at(

@@ -16,9 +16,9 @@ ghost use Rattle.sds_router.specs.Asks.{has_wanted, is_met, is_named_by, row_nam
 use crate::StandingRows;
 use crate::ask::{Ask, PeerText};
 use crate::naming::Naming;
-use crate::places::{column_place, columns_at, table_place};
 use crate::texts::{current_text, text_at};
 use sds_base::{NoMemory, Twin, Txt};
+use sds_rowvalues::{column_place, columns_at, table_place};
 use sds_types::{Change, Compared, Condition, Lookup, NodeColumn, Row, Subselect};
 use sds_value::{ColumnDef, TableDef};
 use std::alloc::Global;

@@ -5,10 +5,4 @@ pub mod Judging
 pub mod Comparing
 pub mod Keeping
 pub mod LeadingBack
-pub mod Pairs
-pub mod Looking
-pub mod Fitting
-pub mod Printed
-pub mod Held
-pub mod Longer
 pub mod Children

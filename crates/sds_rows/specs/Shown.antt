@@ -1,23 +1,16 @@
 -- Rows as a person sees them.
-use Rattle.std.specs.Prelude.{ℕ, ◌==◌, List, ◌++◌, map, codes}
-use Rattle.std.specs.List.{filter, flat_map, zip}
+use Rattle.std.specs.Prelude.{ℕ, ◌==◌, List, ◌++◌, codes}
+use Rattle.std.specs.List.{filter, flat_map}
 use Rattle.sds_line.specs.Written.{written_line}
-use Rattle.sds_value.specs.declared.kind.Value.{Value}
-use Rattle.sds_value.specs.declared.row.Field.{Field}
 use Rattle.sds_value.specs.declared.table.ColumnDef.{ColumnDef}
 use Rattle.sds_value.specs.declared.table.TableDef.{TableDef}
 use Rattle.sds_types.specs.declared.row.TableRow.{TableRow}
 use Rattle.sds_trade.specs.rules.Places.{columns_at}
-use Rattle.sds_trade.specs.rules.RoutedValues.{field_of}
-
--- the fields that values are written as, each by its column's kind
-abbrev pub fields_of : List ColumnDef → List Value → List Field
-fields_of columns values =
-    map (λ (at : ColumnDef × Value). field_of at.0.kind at.1) (zip columns values)
+use Rattle.sds_trade.specs.rules.Sides.{fields_of}
 
 -- a row: its values as they are printed
 abbrev pub row_text : List ColumnDef → TableRow → List ℕ
-row_text columns row = written_line (fields_of columns row.row.0) ++ codes "\n"
+row_text columns row = written_line (fields_of columns row.row) ++ codes "\n"
 
 -- the rows of the table at a place, by key
 abbrev pub rows_text : List TableDef → ℕ → List TableRow → List ℕ

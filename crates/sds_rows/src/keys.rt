@@ -1,41 +1,14 @@
-//! Keys of rows: the places of their columns, and the order of a row's key beside another.
+//! Keys of rows: the order of a row's key beside another.
 ghost use Rattle.std.specs.Prelude.{◌≡◌, map};
 ghost use Rattle.std.specs.Cmp.Lexicographic.{slice_cmp};
 ghost use Rattle.sds_value.specs.Values.{value_order};
-ghost use Rattle.sds_trade.specs.rules.Places as place;
 ghost use Rattle.sds_trade.specs.rules.Tables as stand;
 ghost use Rattle.sds_rows.specs.Searches.{place_order};
 
+use sds_rowvalues::key_places;
 use sds_types::{Row, TableRow};
-use sds_value::{ColumnDef, TableDef, Value};
+use sds_value::{TableDef, Value};
 use std::cmp::Ordering;
-
-/// The columns of the table at a place.
-pub(crate) fn columns_of(defs: &[TableDef], table: usize) -> &[ColumnDef]
-    ensures { result.now ≡ place.columns_at defs.now table }
-{
-    match defs.get(table) {
-        Some(def) => def.columns.inner().as_slice(),
-        None => &[],
-    }
-}
-
-/// The columns of the table at a place of 32 bits.
-pub(crate) fn columns_at(defs: &[TableDef], table: u32) -> &[ColumnDef]
-    ensures { result.now ≡ place.columns_at defs.now table }
-{
-    columns_of(defs, table as usize)
-}
-
-/// The places of the key's columns of the table at a place.
-pub(crate) fn key_places(defs: &[TableDef], table: u32) -> &[u32]
-    ensures { result.now ≡ place.key_places defs.now table }
-{
-    match defs.get(table as usize) {
-        Some(def) => def.key.inner().as_slice(),
-        None => &[],
-    }
-}
 
 /// The order of the value at a place of a row, which is null past its end, beside another value.
 fn order_at(values: &[Value], place: u32, wanted: &Value) -> Ordering
@@ -110,7 +83,7 @@ pub(crate) fn order_by_key(
     if order.is_ne() {
         return order;
     }
-    let places = key_places(defs, other.table);
+    let places = key_places(defs, other.table as usize);
     order_of_key(places, other.row.0.inner().as_slice(), key)
 }
 
@@ -122,7 +95,7 @@ pub(crate) fn order_by_row(defs: &[TableDef], other: &TableRow, table: u32, row:
     if order.is_ne() {
         return order;
     }
-    let places = key_places(defs, table);
+    let places = key_places(defs, table as usize);
     order_of_keys(
         places,
         other.row.0.inner().as_slice(),
@@ -135,5 +108,10 @@ pub(crate) fn has_own_key(defs: &[TableDef], table: u32, row: &Row, key: &[Value
     ensures { result
         ≡ stand.same_key (stand.key_of defs.now table row.now) (record { 0 = key.now }) }
 {
-    order_of_key(key_places(defs, table), row.0.inner().as_slice(), key).is_eq()
+    order_of_key(
+        key_places(defs, table as usize),
+        row.0.inner().as_slice(),
+        key,
+    )
+    .is_eq()
 }

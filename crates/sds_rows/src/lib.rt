@@ -6,10 +6,8 @@ mod keys;
 mod laws;
 mod printing;
 mod references;
-pub mod row_values;
 mod search;
 mod step_rules;
-mod sums;
 mod tables;
 #[cfg(test)]
 mod tests;

@@ -7,8 +7,9 @@ ghost use Rattle.sds_trade.specs.rules.Steps.{rows_after, without_row};
 ghost use Rattle.sds_trade.specs.rules.Tables as stand;
 ghost use Rattle.sds_rows.specs.Searches.{is_reference_to, rows_of_table};
 
-use crate::keys::{columns_at, columns_of, has_own_key, order_by_key};
+use crate::keys::{has_own_key, order_by_key};
 use crate::search::{has_key, rows_of_table};
+use sds_rowvalues::columns_at;
 use sds_types::{Key, Row, RowStep, TableRow};
 use sds_value::{ColumnDef, TableDef, Value};
 use std::slice;
@@ -102,7 +103,7 @@ pub(crate) fn finds_parents(
     ensures { result ≡ stand.finds_parents defs.now
         (rows_after defs.now rows.now step.now) table row.now }
 {
-    let columns = columns_at(defs, table);
+    let columns = columns_at(defs, table as usize);
     let values = row.0.inner().as_slice();
     for (place, column) in columns.iter().enumerate() {
         let Some(value) = values.get(place) else {
@@ -122,7 +123,7 @@ pub(crate) fn finds_parents(
 fn refers_to(defs: &[TableDef], table: u32, key: &[Value], row: &TableRow) -> bool
     ensures { result ≡ stand.refers_to defs.now table (record { 0 = key.now }) row.now }
 {
-    let columns = columns_at(defs, row.table);
+    let columns = columns_at(defs, row.table as usize);
     let values = row.row.0.inner().as_slice();
     for (place, column) in columns.iter().enumerate() {
         let Some(value) = values.get(place) else {
@@ -174,7 +175,7 @@ fn child_refers(
     ensures { result ≡ list_any (stand.refers_to defs.now table (record { 0 = key.now }))
         (without_row defs.now (rows_of_table child rows.now) table (record { 0 = key.now })) }
 {
-    has_parent(columns_of(defs, child), table)
+    has_parent(columns_at(defs, child), table)
         && some_refers(defs, rows_of_table(rows, child), table, key)
 }
 

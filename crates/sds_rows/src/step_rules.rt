@@ -3,9 +3,10 @@ ghost use Rattle.std.specs.Prelude.{◌≡◌};
 ghost use Rattle.sds_trade.specs.rules.StepRules as judged;
 ghost use Rattle.sds_trade.specs.rules.Tables.{Ascend};
 
-use crate::keys::{columns_at, has_own_key};
+use crate::keys::has_own_key;
 use crate::references::{finds_parents, is_null, others_refer};
 use crate::search::{has_key, has_key_of};
+use sds_rowvalues::columns_at;
 use sds_types::limits::MOST_ROWS;
 use sds_types::{Row, RowStep, Rule, TableRow};
 use sds_value::{ColumnDef, TableDef};
@@ -56,8 +57,8 @@ fn puts_null(defs: &[TableDef], step: &RowStep) -> bool
     ensures { result ≡ judged.puts_null defs.now step.now }
 {
     match step {
-        RowStep::Insert { table, row } => has_null(columns_at(defs, *table), row),
-        RowStep::Update { table, row, .. } => has_null(columns_at(defs, *table), row),
+        RowStep::Insert { table, row } => has_null(columns_at(defs, *table as usize), row),
+        RowStep::Update { table, row, .. } => has_null(columns_at(defs, *table as usize), row),
         RowStep::Delete { .. } => false,
     }
 }

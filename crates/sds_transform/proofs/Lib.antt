@@ -1,5 +1,3 @@
 pub mod Texts
-pub mod Printed
-pub mod Held
 pub mod Meant
 pub mod Filled

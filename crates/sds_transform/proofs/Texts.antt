@@ -1,23 +1,13 @@
 -- Texts: their characters, and pieces of them.
-use Rattle.std.proofs.Common.{◌≡◌, ◌↔◌, ℕ, zero, suc, Bool, true, false, List, [], ◌∷◌, take, drop, refl, sym, ap, ◌∙◌}
-use Rattle.std.specs.Prelude.{codes, IsTrue}
-use Rattle.std.specs.Str.{IsUtf8, all_scalars, bytes_eq, chars, encode_utf8_all}
+use Rattle.std.proofs.Common.{◌≡◌, ℕ, zero, suc, true, List, [], ◌∷◌, take, drop, refl, ap, ◌∙◌}
+use Rattle.std.specs.Prelude.{codes}
+use Rattle.std.specs.Str.{IsUtf8, all_scalars, chars, encode_utf8_all}
 use Rattle.std.proofs.lemmas.Bool.{and_parts}
-use Rattle.std.proofs.lemmas.Str.{chars-nil, chars-encodes, scalars-chars}
+use Rattle.std.proofs.lemmas.Str.{chars-encodes, scalars-chars}
 
 pub star_characters : chars (codes "*") ≡ codes "*"
 unfolding chars
 star_characters = refl
-
-pub no_characters : (bytes : List ℕ) → bytes ≡ [] → chars bytes ≡ []
-no_characters bytes none = ap chars none ∙ chars-nil
-
--- a text is the one without characters
-pub same_as_none : (result : Bool) (name : List ℕ) → (IsTrue result ↔ (name ≡ [])) → result ≡ bytes_eq [] name
-same_as_none true [] is = refl
-same_as_none false [] is = let e : false ≡ true = is.1 refl in absurd (cc)
-same_as_none true (c ∷ name) is = let e : c ∷ name ≡ [] = is.0 refl in absurd (cc)
-same_as_none false (c ∷ name) is = refl
 
 scalars-take : (n : ℕ) (cs : List ℕ) → all_scalars cs ≡ true → all_scalars (take n cs) ≡ true
 scalars-take zero cs is = refl

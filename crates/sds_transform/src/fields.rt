@@ -99,10 +99,3 @@ pub(crate) fn is_listed(fields: &[(Txt, Field)], name: &Txt) -> bool
     }
     false
 }
-
-/// Whether one of these texts is this one.
-pub(crate) fn is_among(names: &[Txt], name: &Txt) -> bool
-    ensures { result ≡ place.is_among names.now name.now }
-{
-    names.iter().any(|other| *other == *name)
-}

@@ -7,9 +7,10 @@ ghost use Rattle.sds_trade.specs.rules.MadeRows as rows;
 ghost use Rattle.sds_trade.specs.rules.MadeSides as made;
 
 use crate::column_functions::takes_part;
-use crate::fields::{copy_of, field_in, is_among, is_listed};
+use crate::fields::{copy_of, field_in, is_listed};
 use crate::made_sides::is_implied;
 use sds_base::{List, NoMemory, Twin, Txt};
+use sds_rowvalues::is_among;
 use sds_types::{ColumnPolicy, TransformColumn, TransformDef};
 use sds_value::{DocRow, Event, Field};
 use std::alloc::Global;

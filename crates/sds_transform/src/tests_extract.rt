@@ -4,11 +4,11 @@ ghost use Rattle.sds_value.specs.Values.{fits};
 ghost use Rattle.sds_trade.specs.rules.Fitting.{FitColumns, FitsRow};
 ghost use Rattle.sds_trade.specs.rules.Tables.{is_null};
 
-use crate::change_rows::columns_at;
 use crate::extract;
 use crate::tests::{BOTH_KEYS, MARK, OTHER_KEY, OTHERS, THREE};
 use crate::tests_parts::{Column, config, put_row, transform, way};
 use sds_base::{List, NoMemory, Txt};
+use sds_rowvalues::columns_at;
 use sds_types::{Change, ColumnPolicy, Config, DeleteAction, Point, Row, TransformDef};
 use sds_value::{Binary, ColumnDef, DocRow, Event, Kind, TableDef, Value, read_value_fits};
 use std::alloc::Global;

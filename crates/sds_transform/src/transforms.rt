@@ -1,9 +1,8 @@
 //! Which transforms are for a row on its way from one node to another, and what they make of it, as
 //! its batch is written and as it is loaded.
-ghost use Rattle.std.specs.Prelude.{◌≡◌, IfOk, IfSome, [], ◌∷◌, length, option_copied, slice_get, unwrap_or};
+ghost use Rattle.std.specs.Prelude.{◌≡◌, IfOk, IfSome, [], ◌∷◌, length, unwrap_or};
 ghost use Rattle.std.specs.List.{flat_map, list_any};
 ghost use Rattle.std.specs.Option.{option_to_list};
-ghost use Rattle.std.specs.Str.{bytes_eq};
 ghost use Rattle.sds_types.specs.declared.transform.Point.TheVariants.{Extract, Load};
 ghost use Rattle.sds_trade.specs.rules.Fitting.{FitsRow};
 ghost use Rattle.sds_trade.specs.rules.Places as place;
@@ -14,6 +13,7 @@ use crate::change_rows::row_of_change;
 use crate::column_functions::takes_part;
 use crate::made_rows::made_row;
 use sds_base::{List, NoMemory, Twin, Txt};
+use sds_rowvalues::{column_place, is_group, table_place};
 use sds_types::{
     Add, Change, ColumnExpression, Config, Point, Shaped, TransformColumn, TransformDef, Way,
 };
@@ -136,27 +136,9 @@ fn is_meant(config: &Config, way: &Way, point: Point, table: &Txt, transform: &T
 {
     let groups = config.groups.inner().as_slice();
     transform.point == point
-        && is_group(groups, transform.source_group, &way.source_group)
-        && is_group(groups, transform.target_group, &way.target_group)
+        && is_group(groups, transform.source_group as usize, &way.source_group)
+        && is_group(groups, transform.target_group as usize, &way.target_group)
         && transform.source_table == *table
-}
-
-/// Whether the group at a place has this name.
-#[tactic(auto, using(crate::proofs::Texts::same_as_none))]
-fn is_group(groups: &[Txt], group: u32, name: &Txt) -> bool
-    ensures { result ≡ bytes_eq (place.group_name groups.now group) name.now }
-{
-    match group_at(groups, group) {
-        None => name.is_empty(),
-        Some(group) => *group == *name,
-    }
-}
-
-/// The group at a place.
-fn group_at(groups: &[Txt], group: u32) -> Option<&Txt>
-    ensures { option_copied result ≡ slice_get groups.now group }
-{
-    groups.get(group as usize)
 }
 
 /// What a transform makes of a row, with the columns that are added to.
@@ -230,18 +212,4 @@ fn columns_named<'a>(defs: &'a [TableDef], name: &Txt) -> &'a [ColumnDef]
         None => &[],
         Some(place) => defs[place].columns.inner().as_slice(),
     }
-}
-
-/// The place of the table of a name.
-fn table_place(defs: &[TableDef], name: &Txt) -> Option<usize>
-    ensures { result ≡ place.table_place defs.now name.now }
-{
-    defs.iter().position(|def| def.name == *name)
-}
-
-/// The place of the column of a name.
-fn column_place(columns: &[ColumnDef], name: &Txt) -> Option<usize>
-    ensures { result ≡ place.column_place columns.now name.now }
-{
-    columns.iter().position(|column| column.name == *name)
 }

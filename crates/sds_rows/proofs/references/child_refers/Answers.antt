@@ -8,5 +8,5 @@ pub returns-else-has_parent : goal.returns-else-has_parent
 returns-else-has_parent c =
     c.if-has_parent.false
     ∙ sym (no_children c.args.table (record { 0 = c.args.key.now }) c.args.defs.now c.args.child c.args.rows.now
-    (ap (list_any (is_reference_to c.args.table)) (sym c.columns_of.ensures)
+    (ap (list_any (is_reference_to c.args.table)) (sym c.columns_at.ensures)
     ∙ (sym c.has_parent.ensures ∙ c.if-has_parent.false)))

@@ -1,6 +1,0 @@
-use Rattle.std.proofs.Common.{◌≡◌, ◌++◌, drop, map}
-use Rattle.sds_value.specs.declared.table.ColumnDef.{ColumnDef}
-use Rattle.sds_capture.proofs.own_rows.names_of.Given as goal
-
-abbrev pub invariant-loop-column : goal.invariant-loop-column
-invariant-loop-column l = l.names.items ++ map (λ (column : ColumnDef). column.name) (drop l.column-index l.columns) ≡ map (λ (column : ColumnDef). column.name) l.columns

@@ -1,6 +1,0 @@
-use Rattle.std.proofs.Common.{rules}
-use Rattle.std.proofs.lemmas.Str.{chars-nil}
-use Rattle.sds_capture.proofs.own_rows.no_text.Goals as goal
-
-pub returns : goal.returns
-returns c = search (rules, chars-nil)

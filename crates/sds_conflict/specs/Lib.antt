@@ -1,2 +1,0 @@
--- The words that the contracts of conflicts share.
-pub mod Found

@@ -1,0 +1,5 @@
+pub mod Pairs
+pub mod Looking
+pub mod Fitting
+pub mod Held
+pub mod Printed
