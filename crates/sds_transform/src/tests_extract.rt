@@ -112,7 +112,7 @@ fn row_if(
     if !is_there {
         return Ok(None);
     }
-    Ok(Some(row_of(alloc, columns_at(defs, table), texts)?))
+    Ok(Some(row_of(alloc, columns_at(defs, table as usize), texts)?))
 }
 
 /// The change that is given.
