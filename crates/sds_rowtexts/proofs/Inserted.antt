@@ -6,7 +6,7 @@ use Rattle.sds_value.specs.declared.kind.Value.{Value}
 use Rattle.sds_types.specs.declared.load_row.LoadRow.{LoadRow}
 use Rattle.sds_types.specs.declared.transform.Add.{Add}
 use Rattle.sds_trade.specs.rules.LoadRows.{addend_of, units_of, value_for}
-use Rattle.sds_rowtexts.proofs.Pairs.{zip_none}
+use Rattle.sds_rowvalues.proofs.Pairs.{zip_none}
 
 pub inserted : (row : LoadRow) (add : Add) (new sum : ℤ) → row.event ≡ Insert
     → new ≡ units_of (value_for (zip row.columns row.new) add.column)

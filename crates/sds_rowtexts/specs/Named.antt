@@ -1,5 +1,5 @@
 -- Values by the names of their columns, and the names of a table's key.
-use Rattle.std.specs.Prelude.{ℕ, List, map, Option, None, Some}
+use Rattle.std.specs.Prelude.{ℕ, List, map}
 use Rattle.std.specs.List.{find, zip}
 use Rattle.std.specs.Option.{option_map_or}
 use Rattle.std.specs.Str.{bytes_eq}
@@ -9,11 +9,6 @@ use Rattle.sds_value.specs.declared.kind.Value.{Value}
 use Rattle.sds_value.specs.declared.kind.Value.TheVariants.{Null}
 use Rattle.sds_value.specs.declared.table.TableDef.{TableDef}
 use Rattle.sds_trade.specs.rules.Places.{column_name}
-
--- the value that is found, and null where none is
-abbrev pub or_null : Option Value → Value
-or_null None = Null
-or_null (Some value) = value
 
 -- the value of a name among names with their values: that of the first, or null where none has it
 abbrev pub value_named : List (List ℕ × Value) → List ℕ → Value

@@ -4,6 +4,7 @@ ghost use Rattle.std.specs.List.{zip};
 ghost use Rattle.sds_trade.specs.rules.LoadRows as read;
 
 use sds_base::{List, NoMemory};
+use sds_rowvalues::{units_of, value_for};
 use sds_types::{Add, Addend, LoadRow};
 use sds_value::{Event, Value};
 use std::alloc::Global;
@@ -66,24 +67,8 @@ fn product(multiplier: i64, new: i64, old: i64) -> i128
 fn units_for(places: &[u32], values: &[Value], column: u32) -> i64
     ensures { result ≡ read.units_of (read.value_for (zip places.now values.now) column) }
 {
-    for (at, place) in places.iter().enumerate() {
-        let Some(value) = values.get(at) else {
-            return 0;
-        };
-        if *place == column {
-            return units_of(value);
-        }
-    }
-    0
-}
-
-/// A number in units of its column's last digit; null counts as 0.
-fn units_of(value: &Value) -> i64
-    ensures { result ≡ read.units_of value.now }
-{
-    match value {
-        Value::Integer(number) => *number,
-        Value::Decimal(units) => *units,
-        _ => 0,
+    match value_for(places, values, column as usize) {
+        Some(value) => units_of(value),
+        None => 0,
     }
 }

@@ -5,9 +5,11 @@ ghost use Rattle.std.specs.List.{list_all, zip};
 ghost use Rattle.std.specs.Str.{chars};
 ghost use Rattle.sds_trade.specs.rules.DocRows as doc;
 ghost use Rattle.sds_trade.specs.rules.Places as place;
-ghost use Rattle.sds_rowtexts.specs.Named.{key_names_of, or_null, value_named};
+ghost use Rattle.sds_rowtexts.specs.Named.{key_names_of, value_named};
+ghost use Rattle.sds_rowvalues.specs.Found.{or_null};
 
-use sds_base::{List, NoMemory, Twin, Txt};
+use sds_base::{List, NoMemory, Txt};
+use sds_rowvalues::copy_of;
 use sds_value::{ColumnDef, DocRow, Event, Field, TableDef, Value};
 use std::alloc::Global;
 
@@ -141,14 +143,4 @@ fn value_named<'a>(names: &[Txt], values: &'a [Value], name: &str) -> Option<&'a
         }
     }
     None
-}
-
-/// A copy of a value that is looked up.
-fn copy_of(alloc: Global, value: Option<&Value>) -> Result<Value, NoMemory>
-    ensures { IfOk result (λ copy. copy ≡ or_null (option_copied value.entry)) }
-{
-    match value {
-        None => Ok(Value::Null),
-        Some(value) => value.twin(alloc),
-    }
 }

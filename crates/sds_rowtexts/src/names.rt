@@ -1,36 +1,14 @@
-//! The names of a row: the place of its table, the places of its columns, and whether it has as
-//! many fields as names.
+//! The names of a row: the places of its columns, and whether it has as many fields as names.
 ghost use Rattle.std.specs.Prelude.{◌≡◌, ◌==◌, true, IfOk, List, length};
 ghost use Rattle.std.specs.Option.{option_map_or};
 ghost use Rattle.sds_value.specs.declared.row.Field.{Field};
 ghost use Rattle.sds_trade.specs.rules.DocRows as doc;
-ghost use Rattle.sds_trade.specs.rules.Places as place;
 ghost use Rattle.sds_rowtexts.specs.Placed.{places_of};
 
 use sds_base::{List, NoMemory, Txt};
-use sds_value::{ColumnDef, DocRow, Event, TableDef};
+use sds_rowvalues::{column_place, is_among};
+use sds_value::{ColumnDef, DocRow, Event};
 use std::alloc::Global;
-
-/// The place of the table of a name.
-pub(crate) fn table_place(defs: &[TableDef], name: &Txt) -> Option<usize>
-    ensures { result ≡ place.table_place defs.now name.now }
-{
-    defs.iter().position(|def| def.name == *name)
-}
-
-/// The place of the column of a name.
-fn column_place(columns: &[ColumnDef], name: &Txt) -> Option<usize>
-    ensures { result ≡ place.column_place columns.now name.now }
-{
-    columns.iter().position(|column| column.name == *name)
-}
-
-/// Whether one of these texts is this one.
-pub(crate) fn is_among(names: &[Txt], name: &Txt) -> bool
-    ensures { result ≡ place.is_among names.now name.now }
-{
-    names.iter().any(|other| *other == *name)
-}
 
 /// The places of the columns that these names are of; none where a name is no column's or stands
 /// twice. A place past 32 bits, where no table of a configuration has a column, is out of memory.

@@ -3,9 +3,9 @@ ghost use Rattle.std.specs.Prelude.{◌≡◌, IfOk, []};
 ghost use Rattle.sds_trade.specs.rules.LoadRows as read;
 
 use crate::addends::addends_of;
-use crate::names::table_place;
 use crate::texts::{Texts, read_texts};
 use sds_base::{List, NoMemory};
+use sds_rowvalues::table_place;
 use sds_types::{Add, Key, LoadRow, Rule};
 use sds_value::{Binary, DocRow, Event, TableDef};
 use std::alloc::Global;

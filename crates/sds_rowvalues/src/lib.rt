@@ -11,6 +11,7 @@ pub use names::{column_names, key_names, no_name, table_name};
 pub use places::{column_place, columns_at, is_among, is_group, key_places, table_place};
 pub use printing::{field_of, fields_of, text_of};
 pub use row_values::{
-    gives, key_alone, new_key, new_value, old_value, order_of, put_values, same_value, sums_fit,
-    value_at,
+    copy_of, gives, key_alone, new_key, new_value, old_value, order_of, put_values, same_value,
+    sums_fit, value_at, value_for,
 };
+pub use sums::units_of;

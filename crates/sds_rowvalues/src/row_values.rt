@@ -39,8 +39,8 @@ pub fn same_value(a: Option<&Value>, b: Option<&Value>) -> bool
     order_of(a, b) == Ordering::Equal
 }
 
-/// A copy of a value that is looked up.
-fn copy_of(alloc: Global, value: Option<&Value>) -> Result<Value, NoMemory>
+/// A copy of a value that is looked up, null where there is none.
+pub fn copy_of(alloc: Global, value: Option<&Value>) -> Result<Value, NoMemory>
     ensures { IfOk result (λ copy. copy ≡ or_null (option_copied value.entry)) }
 {
     match value {
@@ -57,7 +57,7 @@ pub fn value_at(values: &[Value], place: usize) -> Option<&Value>
 }
 
 /// The value that stands beside a place, which is null where none does.
-fn value_for<'a>(places: &[u32], values: &'a [Value], place: usize) -> Option<&'a Value>
+pub fn value_for<'a>(places: &[u32], values: &'a [Value], place: usize) -> Option<&'a Value>
     ensures { or_null (option_copied result) ≡ read.value_for (zip places.now values.now) place }
 {
     for (at, other) in places.iter().enumerate() {

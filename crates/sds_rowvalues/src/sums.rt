@@ -42,7 +42,7 @@ fn addition_to(row: &LoadRow, column: usize) -> i128
 }
 
 /// A number in units of its column's last digit; null counts as 0.
-fn units_of(value: &Value) -> i64
+pub fn units_of(value: &Value) -> i64
     ensures { result ≡ read.units_of value.now }
 {
     match value {

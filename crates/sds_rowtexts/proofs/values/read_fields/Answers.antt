@@ -1,7 +1,8 @@
 use Rattle.std.proofs.Common.{◌∙◌, inl, inr}
 use Rattle.sds_trade.specs.rules.TextRules.{is_bad, is_too_long}
 use Rattle.sds_rowtexts.specs.Placed.{is_refused, placed_value}
-use Rattle.sds_rowtexts.proofs.Pairs.{made_all, told_all}
+use Rattle.sds_rowtexts.proofs.Pairs.{told_all}
+use Rattle.sds_rowvalues.proofs.Pairs.{made_all}
 use Rattle.sds_rowtexts.proofs.values.read_fields.Goals as goal
 use Rattle.sds_rowtexts.proofs.values.read_fields.Goals.{else-loop-at-test, then-loop-at-test+in_default}
 

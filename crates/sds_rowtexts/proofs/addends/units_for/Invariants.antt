@@ -1,8 +1,0 @@
-use Rattle.std.proofs.Common.{◌≡◌, drop}
-use Rattle.std.specs.List.{zip}
-use Rattle.sds_trade.specs.rules.LoadRows.{value_for}
-use Rattle.sds_rowtexts.proofs.addends.units_for.Given as goal
-
--- the value is that of the places that are left
-abbrev pub invariant-loop-at : goal.invariant-loop-at
-invariant-loop-at l = value_for (zip (drop l.at l.places) (drop l.at l.values)) l.column ≡ value_for (zip l.places l.values) l.column
