@@ -5,6 +5,7 @@ pub mod Judging
 pub mod Comparing
 pub mod Keeping
 pub mod LeadingBack
+mod Lines
 pub mod Pairs
 pub mod Looking
 pub mod Fitting
