@@ -1,14 +1,15 @@
 //! A program that measures symds: how fast documents are written and read, and an own write of
-//! rows. Without words it reads the worked documents and does a little of what it measures, and
-//! prints what came of it, the same each time; with a number of megabytes it does so much of it and
-//! a write of as many rows as one may have, and prints milliseconds, megabytes a second and rows a
-//! second.
+//! rows, and the load of a batch. Without words it reads the worked documents and does a little of
+//! what it measures, and prints what came of it, the same each time; with a number of megabytes it
+//! does so much of it, a write of as many rows as one may have, and the load of a batch of 10,000
+//! rows, and prints milliseconds, megabytes a second and rows a second.
 #![tactic(auto)]
 
 ghost use Rattle.std.specs.Prelude.{◌≤◌, IfOk};
 
 mod cases;
 mod listing;
+mod loading;
 mod measures;
 mod sample;
 #[cfg(test)]
@@ -17,6 +18,7 @@ mod writes;
 
 use cases::differing;
 use listing::Listing;
+use loading::{MOST_BATCH_ROWS, load_rows};
 use measures::{Measured, read_batches, write_batches};
 use sample::batch;
 use sds_types::limits::MOST_WRITE_ROWS;
@@ -32,7 +34,7 @@ const ROWS: usize = 2_000;
 /// The batches of a run without words.
 const FEW: u64 = 2;
 
-/// The rows of the own write of a run without words.
+/// The rows of the own write, and of the batch that is loaded, of a run without words.
 const FEW_ROWS: u32 = 100;
 
 /// The bytes of a megabyte, and those that a batch has at the least.
@@ -66,7 +68,21 @@ fn main(rt: HostRuntime) -> io::Result<()> {
     let start = Instant::now(&rt)?;
     let read = read_batches(rt.alloc(), ROWS, turns).map_err(|_| none())?;
     tell(&rt, "read", &read, start, asked.is_some())?;
-    tell_write(&rt, asked.is_some())
+    tell_write(&rt, asked.is_some())?;
+    tell_load(&rt, asked.is_some())
+}
+
+/// Loads a batch, each of whose rows has a reference, and tells of it.
+fn tell_load<R: Print + Clock + Alloc<A = Global>>(rt: &R, is_timed: bool) -> io::Result<()> {
+    let count = if is_timed { MOST_BATCH_ROWS } else { FEW_ROWS };
+    let start = Instant::now(rt)?;
+    let rows = load_rows(rt.alloc(), count).map_err(|_| none())?;
+    if !is_timed {
+        return println!(rt; "load {rows} rows");
+    }
+    let millis = millis_since(rt, start)?;
+    let speed = u64::from(rows).saturating_mul(1_000) / millis;
+    println!(rt; "load {rows} rows in {millis} ms, {speed} rows/s")
 }
 
 /// Makes an own write, each of whose rows has a reference, and tells of it.
