@@ -1,9 +1,8 @@
 -- The rows of a batch go by the numbers of the document's rows that they come from.
-use Rattle.std.proofs.Common.{◌≡◌, ℕ, ◌+◌, Bool, true, false, List, [], ◌∷◌, map, Option, None, Some, refl, sym, ap, ◌∙◌, true≢false}
+use Rattle.std.proofs.Common.{◌≡◌, ℕ, ◌+◌, true, List, [], ◌∷◌, map, Option, None, Some, refl, sym, ap, ◌∙◌, true≢false}
 use Rattle.std.specs.Prelude.{is_some}
 use Rattle.sds_types.specs.declared.config.Config.{Config}
 use Rattle.sds_types.specs.declared.load_row.LoadRow.{LoadRow}
-use Rattle.sds_types.specs.declared.prepared.Body.{Body}
 use Rattle.sds_types.specs.declared.prepared.Body.TheVariants as body
 use Rattle.sds_types.specs.declared.prepared.Prepared.{Prepared}
 use Rattle.sds_types.specs.declared.row.TableRow.{TableRow}

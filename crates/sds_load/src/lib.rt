@@ -8,7 +8,13 @@ mod settings;
 #[cfg(test)]
 mod tests;
 #[cfg(test)]
+mod tests_loads;
+#[cfg(test)]
+mod tests_outcomes;
+#[cfg(test)]
 mod tests_parts;
+#[cfg(test)]
+mod tests_shop;
 #[cfg(test)]
 mod tests_told;
 

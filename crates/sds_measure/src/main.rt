@@ -1,14 +1,16 @@
 //! A program that measures symds: how fast documents are written and read, rows of an own write are
-//! made, and changes are routed. Without words it reads the worked documents and does a little of
-//! what it measures, and prints what came of it, the same each time; with a number of megabytes it
-//! does so much of it, a write of as many rows as one may have, and a routing run of ten thousand
-//! changes, and prints milliseconds, megabytes, rows and changes a second.
+//! made, a batch is loaded, and changes are routed. Without words it reads the worked documents and
+//! does a little of what it measures, and prints what came of it, the same each time; with a number
+//! of megabytes it does so much of it, a write of as many rows as one may have, the load of a batch
+//! of 10,000 rows and a routing run of 10,000 changes, and prints milliseconds, megabytes, rows and
+//! changes a second.
 #![tactic(auto)]
 
 ghost use Rattle.std.specs.Prelude.{◌≤◌, IfOk};
 
 mod cases;
 mod listing;
+mod loading;
 mod measures;
 mod routing;
 mod sample;
@@ -18,6 +20,7 @@ mod writes;
 
 use cases::differing;
 use listing::Listing;
+use loading::{MOST_BATCH_ROWS, load_rows};
 use measures::{Measured, read_batches, write_batches};
 use sample::batch;
 use sds_types::limits::MOST_WRITE_ROWS;
@@ -33,7 +36,7 @@ const ROWS: usize = 2_000;
 /// The batches of a run without words.
 const FEW: u64 = 2;
 
-/// The rows of the own write of a run without words.
+/// The rows of the own write, and of the batch that is loaded, of a run without words.
 const FEW_ROWS: u32 = 100;
 
 /// The bytes of a megabyte, and those that a batch has at the least.
@@ -68,7 +71,21 @@ fn main(rt: HostRuntime) -> io::Result<()> {
     let read = read_batches(rt.alloc(), ROWS, turns).map_err(|_| none())?;
     tell(&rt, "read", &read, start, asked.is_some())?;
     tell_write(&rt, asked.is_some())?;
+    tell_load(&rt, asked.is_some())?;
     routing::measure(&rt, asked.is_some())
+}
+
+/// Loads a batch, each of whose rows has a reference, and tells of it.
+fn tell_load<R: Print + Clock + Alloc<A = Global>>(rt: &R, is_timed: bool) -> io::Result<()> {
+    let count = if is_timed { MOST_BATCH_ROWS } else { FEW_ROWS };
+    let start = Instant::now(rt)?;
+    let rows = load_rows(rt.alloc(), count).map_err(|_| none())?;
+    if !is_timed {
+        return println!(rt; "load {rows} rows");
+    }
+    let millis = millis_since(rt, start)?;
+    let speed = u64::from(rows).saturating_mul(1_000) / millis;
+    println!(rt; "load {rows} rows in {millis} ms, {speed} rows/s")
 }
 
 /// Makes an own write, each of whose rows has a reference, and tells of it.

@@ -34,7 +34,7 @@ fn table(alloc: Global, name: &str, columns: List<ColumnDef>) -> Result<TableDef
 }
 
 /// A configuration of items, and of sales that refer to one.
-fn config(alloc: Global) -> Result<Config, NoMemory> {
+pub(crate) fn config(alloc: Global) -> Result<Config, NoMemory> {
     let mut item = List::new(alloc);
     item.push(column(alloc, "id", Kind::Integer, None)?)?;
     let mut sale = List::new(alloc);

@@ -5,4 +5,5 @@ pub mod Judging
 pub mod Comparing
 pub mod Keeping
 pub mod LeadingBack
+mod Lines
 pub mod Children

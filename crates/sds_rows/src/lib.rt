@@ -12,6 +12,8 @@ mod tables;
 #[cfg(test)]
 mod tests;
 #[cfg(test)]
+mod tests_lines;
+#[cfg(test)]
 mod tests_shop;
 mod undo;
 
