@@ -7,6 +7,10 @@ mod fields;
 mod keys;
 mod names;
 mod part;
+#[cfg(test)]
+mod tests;
+#[cfg(test)]
+mod tests_parts;
 
 pub use edits::{drop_part, put_part};
 pub use part::Part;
