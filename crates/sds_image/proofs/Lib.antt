@@ -1,0 +1,2 @@
+-- Lemmas on texts.
+pub mod Texts

@@ -1,0 +1,2 @@
+-- The words that the contracts of kept records share.
+pub mod Parts
