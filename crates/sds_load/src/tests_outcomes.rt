@@ -49,7 +49,8 @@ const CONFLICTS: [&str; 17] = [
     "insert item 1, name Pen; insert drops 1, name A; insert drops 1, name B -> ignored",
     "insert drops 1, name A -> done, insert 1 A -",
     "delete item 1; insert drops 1, name B; insert item 1 -> ignored",
-    "insert item 1, name Pen; update drops 1, name C -> done, insert 1 Pen -, update 1 C - for 1 A -",
+    "insert item 1, name Pen; update drops 1, name C \
+     -> done, insert 1 Pen -, update 1 C - for 1 A -",
     "delete drops 2 -> ignored",
     // Texts are read before any conflict is seen.
     "insert drops 1, name B; insert item x, name Cap -> 2 BadValue",
