@@ -6,8 +6,8 @@ ghost use Rattle.sds_trade.specs.rules.Fitting.{FitsRow};
 ghost use Rattle.sds_trade.specs.rules.Tables.{IsRowOf, may_hold};
 ghost use Rattle.sds_router.specs.Standing.{AreRowsOf};
 
-use crate::places::columns_at;
 use sds_base::{List, NoMemory, Txt};
+use sds_rowvalues::columns_at;
 use sds_types::{Change, Row, TableRow};
 use sds_value::{Binary, ColumnDef, Event, Kind, Peer, TableDef, Value, read_value_fits};
 use std::alloc::Global;

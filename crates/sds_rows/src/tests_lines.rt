@@ -8,8 +8,8 @@ ghost use Rattle.sds_trade.specs.rules.Steps.{rows_after};
 ghost use Rattle.sds_trade.specs.rules.Tables.{AreTables};
 
 use crate::Tables;
-use crate::keys::columns_at;
 use sds_base::{List, NoMemory, Txt};
+use sds_rowvalues::columns_at;
 use sds_types::{Row, RowStep};
 use sds_value::{ColumnDef, Kind, TableDef, Value};
 use std::alloc::Global;
