@@ -1,2 +1,3 @@
--- Lemmas on texts.
+-- Lemmas on texts, and on the keys of rows.
 pub mod Texts
+pub mod RowKeys

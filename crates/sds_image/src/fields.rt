@@ -6,10 +6,11 @@ ghost use Rattle.sds_line.specs.Written.{written_line};
 ghost use Rattle.sds_value.specs.declared.row.Field.TheVariants as field;
 ghost use Rattle.sds_types.specs.Standings.{name_of};
 ghost use Rattle.sds_history.specs.history.Records as records;
-ghost use Rattle.sds_image.specs.Parts.{record_of_part};
+ghost use Rattle.sds_image.specs.Parts.{FitsPart, record_of_part};
 
 use crate::Part;
 use crate::names::channel_name;
+use crate::rows::{change_fields, row_fields};
 use sds_base::{Bytes, NoMemory, Twin, Txt};
 use sds_line::put_fields;
 use sds_types::{
@@ -20,7 +21,7 @@ use std::alloc::Global;
 
 /// The field of a number: its decimal text.
 #[tactic(auto, using(crate::proofs::Texts::number_text))]
-fn number_field(alloc: Global, number: u64) -> Result<Field, NoMemory>
+pub(crate) fn number_field(alloc: Global, number: u64) -> Result<Field, NoMemory>
     ensures { IfOk result (λ made. made ≡ records.number_field number) }
 {
     Ok(Field::Text(Txt::of(number.to_string(alloc)?)))
@@ -35,7 +36,7 @@ fn text_field(alloc: Global, text: &Txt) -> Result<Field, NoMemory>
 
 /// The field of a word, which is in ASCII.
 #[tactic(auto, using(crate::proofs::Texts::word_text))]
-fn word_field(alloc: Global, word: &str) -> Result<Field, NoMemory>
+pub(crate) fn word_field(alloc: Global, word: &str) -> Result<Field, NoMemory>
     requires { IsTrue (list_all is_ascii word.now) }
     ensures { IfOk result (λ made. made ≡ field.Text word.now) }
 {
@@ -220,6 +221,7 @@ fn lane_fields(alloc: Global, lane: &LaneIn) -> Result<Vec<Field>, NoMemory>
 
 /// The fields of a part's record.
 fn fields_of(alloc: Global, config: &Config, part: &Part) -> Result<Vec<Field>, NoMemory>
+    requires { FitsPart config.now part.now }
     ensures { IfOk result (λ made. written_line made.items
         ≡ (record_of_part config.now part.now).body) }
 {
@@ -229,6 +231,8 @@ fn fields_of(alloc: Global, config: &Config, part: &Part) -> Result<Vec<Field>, 
         Part::Peer(kept) => peer_fields(alloc, kept),
         Part::Opening(opening) => opening_fields(alloc, opening),
         Part::Writer(last) => writer_fields(alloc, last),
+        Part::Row(table, row) => row_fields(alloc, config, *table, row),
+        Part::Change(change) => change_fields(alloc, config, change),
         Part::Batch(batch) => batch_fields(alloc, config, batch),
         Part::Lane(lane) => lane_fields(alloc, lane),
     }
@@ -236,6 +240,7 @@ fn fields_of(alloc: Global, config: &Config, part: &Part) -> Result<Vec<Field>, 
 
 /// The body of a part's record.
 pub(crate) fn body_of(alloc: Global, config: &Config, part: &Part) -> Result<Bytes, NoMemory>
+    requires { FitsPart config.now part.now }
     ensures { IfOk result (λ body. body ≡ (record_of_part config.now part.now).body) }
 {
     let fields = fields_of(alloc, config, part)?;

@@ -2,12 +2,14 @@
 ghost use Rattle.std.specs.Prelude.{◌≡◌, ◌++◌, IfOk};
 ghost use Rattle.sds_history.specs.history.Records as records;
 ghost use Rattle.sds_history.specs.history.Records.{id_text};
-ghost use Rattle.sds_image.specs.Parts.{record_of_part};
+ghost use Rattle.sds_history.specs.history.RowRecords.{change_record};
+ghost use Rattle.sds_image.specs.Parts.{FitsPart, record_of_part};
 
 use crate::Part;
 use crate::names::channel_name;
+use crate::rows::row_key;
 use sds_base::{Bytes, NoMemory};
-use sds_types::{Config, KeptPeer, LaneIn, Opening, OutBatch, WriterLast};
+use sds_types::{Change, Config, KeptPeer, LaneIn, Opening, OutBatch, WriterLast};
 use std::alloc::Global;
 
 /// How many digits a number has in a key, so that keys ascend as the numbers do.
@@ -59,6 +61,13 @@ fn numbered_key(alloc: Global, start: &str, number: u64) -> Result<Bytes, NoMemo
     Ok(Bytes::of(key))
 }
 
+/// The key of a change.
+fn change_key(alloc: Global, config: &Config, change: &Change) -> Result<Bytes, NoMemory>
+    ensures { IfOk result (λ key. key ≡ (change_record config.now change.now).key) }
+{
+    numbered_key(alloc, "d/", change.id)
+}
+
 /// The key of a batch.
 fn batch_key(alloc: Global, config: &Config, batch: &OutBatch) -> Result<Bytes, NoMemory>
     ensures { IfOk result (λ key. key ≡ (records.batch_record config.now batch.now).key) }
@@ -78,6 +87,7 @@ fn lane_key(alloc: Global, config: &Config, lane: &LaneIn) -> Result<Bytes, NoMe
 
 /// The key of a part's record.
 pub(crate) fn key_of(alloc: Global, config: &Config, part: &Part) -> Result<Bytes, NoMemory>
+    requires { FitsPart config.now part.now }
     ensures { IfOk result (λ key. key ≡ (record_of_part config.now part.now).key) }
 {
     match part {
@@ -86,6 +96,8 @@ pub(crate) fn key_of(alloc: Global, config: &Config, part: &Part) -> Result<Byte
         Part::Peer(kept) => peer_key(alloc, kept),
         Part::Opening(opening) => opening_key(alloc, opening),
         Part::Writer(last) => writer_key(alloc, last),
+        Part::Row(table, row) => row_key(alloc, config, *table, row),
+        Part::Change(change) => change_key(alloc, config, change),
         Part::Batch(batch) => batch_key(alloc, config, batch),
         Part::Lane(lane) => lane_key(alloc, config, lane),
     }

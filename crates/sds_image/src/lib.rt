@@ -7,6 +7,7 @@ mod fields;
 mod keys;
 mod names;
 mod part;
+mod rows;
 #[cfg(test)]
 mod tests;
 #[cfg(test)]
