@@ -12,6 +12,8 @@ mod rows;
 mod tests;
 #[cfg(test)]
 mod tests_parts;
+#[cfg(test)]
+mod tests_rows;
 
 pub use edits::{drop_part, put_part};
 pub use part::Part;

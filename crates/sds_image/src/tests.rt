@@ -1,6 +1,6 @@
 //! The edits of each kind of part, in words.
 use crate::Part;
-use crate::tests_parts::{batch, kept, lane, opening, peer, tell, writer};
+use crate::tests_parts::{batch, config, kept, lane, opening, peer, tell, writer};
 use sds_base::{NoMemory, Txt};
 use sds_types::{Counts, LaneError, Rule, Stage, Standing};
 use std::alloc::Global;
@@ -13,7 +13,12 @@ fn tell_node(
     external: &str,
     out: &mut Vec<u8>,
 ) -> Result<(), NoMemory> {
-    tell(alloc, &Part::Me(&peer(alloc, id, group, external)?), out)
+    tell(
+        alloc,
+        &config(alloc)?,
+        &Part::Me(&peer(alloc, id, group, external)?),
+        out,
+    )
 }
 
 #[test]
@@ -29,7 +34,7 @@ fn the_node_and_its_counters(rt: HostRuntime) -> Result<(), Fail> {
         last_tx: 5,
         routed: 9,
     };
-    tell(alloc, &Part::Counts(&counts), &mut out)?;
+    tell(alloc, &config(alloc)?, &Part::Counts(&counts), &mut out)?;
     let due = "put me = \"corp\",\"hq\",\"c0\"\n\
                drop me\n\
                put me = \"corp\",\"hq\",\"a\\\"b\\\\c, ä\"\n\
@@ -48,7 +53,12 @@ fn tell_peer(
     out: &mut Vec<u8>,
 ) -> Result<(), NoMemory> {
     let peer = peer(alloc, id, group, "001")?;
-    tell(alloc, &Part::Peer(&kept(alloc, peer, child)?), out)
+    tell(
+        alloc,
+        &config(alloc)?,
+        &Part::Peer(&kept(alloc, peer, child)?),
+        out,
+    )
 }
 
 #[test]
@@ -58,7 +68,7 @@ fn peers_of_both_sides_and_writers(rt: HostRuntime) -> Result<(), Fail> {
     tell_peer(alloc, "s1", "store", true, &mut out)?;
     tell_peer(alloc, "corp", "hq", false, &mut out)?;
     let till = writer(alloc, "till", 4, 11, 2)?;
-    tell(alloc, &Part::Writer(&till), &mut out)?;
+    tell(alloc, &config(alloc)?, &Part::Writer(&till), &mut out)?;
     let due = "put n/s1 = \"store\",\"001\",\"0123456789abcdef0123456789abcdef\",\"child\"\n\
                drop n/s1\n\
                put n/corp = \"hq\",\"001\",\"0123456789abcdef0123456789abcdef\",\"parent\"\n\
@@ -76,7 +86,7 @@ fn tell_opening(
     out: &mut Vec<u8>,
 ) -> Result<(), NoMemory> {
     let opening = opening(alloc, external, stage)?;
-    tell(alloc, &Part::Opening(&opening), out)
+    tell(alloc, &config(alloc)?, &Part::Opening(&opening), out)
 }
 
 #[test]
@@ -108,7 +118,7 @@ fn tell_batch(
 ) -> Result<(), NoMemory> {
     let (first, last) = changes;
     let batch = batch(alloc, id, channel, standing, first, last)?;
-    tell(alloc, &Part::Batch(&batch), out)
+    tell(alloc, &config(alloc)?, &Part::Batch(&batch), out)
 }
 
 #[test]
@@ -155,7 +165,7 @@ fn tell_lane(
     out: &mut Vec<u8>,
 ) -> Result<(), NoMemory> {
     let lane = lane(alloc, channel, highest, ignored, error)?;
-    tell(alloc, &Part::Lane(&lane), out)
+    tell(alloc, &config(alloc)?, &Part::Lane(&lane), out)
 }
 
 #[test]

@@ -1,4 +1,6 @@
 //! What the tests of records share: parts of a state, and the edits of a part in words.
+ghost use Rattle.sds_image.specs.Parts.{FitsPart};
+
 use crate::{Part, drop_part, put_part};
 use sds_base::{List, NoMemory, Txt};
 use sds_outside::Edit;
@@ -6,7 +8,7 @@ use sds_types::{
     Algorithm, ChannelDef, Config, KeptPeer, LaneError, LaneIn, Opening, OutBatch, Stage, Standing,
     WriterLast,
 };
-use sds_value::Peer;
+use sds_value::{ColumnDef, Kind, Peer, TableDef};
 use std::alloc::Global;
 
 /// A token.
@@ -22,16 +24,53 @@ fn channel(alloc: Global, id: &str) -> Result<ChannelDef, NoMemory> {
     })
 }
 
-/// A configuration with the channels `orders` and `news`.
+fn column(alloc: Global, name: &str, kind: Kind) -> Result<ColumnDef, NoMemory> {
+    Ok(ColumnDef {
+        name: Txt::copied(alloc, name)?,
+        kind,
+        not_null: false,
+        parent: None,
+    })
+}
+
+/// The table `item` with the key `id`.
+fn item(alloc: Global) -> Result<TableDef, NoMemory> {
+    let mut columns = List::new(alloc);
+    columns.push(column(alloc, "id", Kind::Integer)?)?;
+    columns.push(column(alloc, "name", Kind::Varchar(40))?)?;
+    columns.push(column(alloc, "price", Kind::Decimal(2))?)?;
+    let mut key = List::new(alloc);
+    key.push(0)?;
+    let name = Txt::copied(alloc, "item")?;
+    Ok(TableDef { name, columns, key })
+}
+
+/// The table `stock` with the key `shop`, `item`.
+fn stock(alloc: Global) -> Result<TableDef, NoMemory> {
+    let mut columns = List::new(alloc);
+    columns.push(column(alloc, "shop", Kind::Varchar(10))?)?;
+    columns.push(column(alloc, "price", Kind::Decimal(2))?)?;
+    columns.push(column(alloc, "item", Kind::Integer)?)?;
+    let mut key = List::new(alloc);
+    key.push(0)?;
+    key.push(2)?;
+    let name = Txt::copied(alloc, "stock")?;
+    Ok(TableDef { name, columns, key })
+}
+
+/// A configuration with the channels `orders` and `news` and the tables `item` and `stock`.
 pub(crate) fn config(alloc: Global) -> Result<Config, NoMemory> {
     let mut channels = List::new(alloc);
     channels.push(channel(alloc, "orders")?)?;
     channels.push(channel(alloc, "news")?)?;
+    let mut tables = List::new(alloc);
+    tables.push(item(alloc)?)?;
+    tables.push(stock(alloc)?)?;
     Ok(Config {
         groups: List::new(alloc),
         links: List::new(alloc),
         channels,
-        tables: List::new(alloc),
+        tables,
         triggers: List::new(alloc),
         routers: List::new(alloc),
         trigger_routers: List::new(alloc),
@@ -135,8 +174,14 @@ fn put_edit(word: &str, edit: &Edit, out: &mut Vec<u8>) -> Result<(), NoMemory> 
 }
 
 /// Adds two lines: the edit that puts a part, and the one that drops it.
-pub(crate) fn tell(alloc: Global, part: &Part, out: &mut Vec<u8>) -> Result<(), NoMemory> {
-    let config = config(alloc)?;
-    put_edit("put ", &put_part(alloc, &config, part)?, out)?;
-    put_edit("drop ", &drop_part(alloc, &config, part)?, out)
+pub(crate) fn tell(
+    alloc: Global,
+    config: &Config,
+    part: &Part,
+    out: &mut Vec<u8>,
+) -> Result<(), NoMemory>
+    requires { FitsPart config.now part.now }
+{
+    put_edit("put ", &put_part(alloc, config, part)?, out)?;
+    put_edit("drop ", &drop_part(alloc, config, part)?, out)
 }
