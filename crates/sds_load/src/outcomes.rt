@@ -70,10 +70,11 @@ fn setting_for(batch: &Prepared, table: u32) -> Option<u32>
 /// Loads a batch at a node of a group, where so many changes wait to be routed: its rows are taken
 /// one after another, each on the tables that those before it left. A row is judged by its conflict
 /// setting, then by the rules on steps, then by whether its step would be captured while 100,000
-/// changes wait. The steps stand in the order of the rows. Where a row asks to skip the batch, or is
-/// the first that breaks a rule, the tables' rows are as before, and so they are where memory is
-/// wanting. A batch of an unknown channel is broken at row 0, and one that couldn't be read at its
-/// own row (the SymmetricDS guide's chapters on loading and on conflicts; the rules are symds' own).
+/// changes wait. The steps stand in the order of the rows. Where a row asks to skip the batch, or
+/// is the first that breaks a rule, the tables' rows are as before, and so they are where memory is
+/// wanting. A batch of an unknown channel is broken as a whole, which is told by the number 0, and
+/// one that couldn't be read at its own row (the SymmetricDS guide's chapters on loading and on
+/// conflicts; the rules are symds' own).
 ///
 /// A batch has fewer than 2^32 rows.
 pub fn outcome(

@@ -49,4 +49,5 @@ RepliesAnswerInOrder = (config : Config) (noise : List ℕ) (events : List World
     (event.Deliver number channels)).told ≡ Delivering number (Ok (place, acks)) ∷ []
     → length acks ≡ length (carried config (world_after config noise events) message)
     → map (λ (ack : Ack). ack.batch) acks
-    ≡ map (λ (batch : OutBatch). batch.id) (carried config (world_after config noise events) message)
+    ≡ map (λ (batch : OutBatch). batch.id)
+    (carried config (world_after config noise events) message)

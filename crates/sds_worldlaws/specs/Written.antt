@@ -25,8 +25,8 @@ written_in config world message =
     option_map_or (λ (sender : Node). message_docs config (state_in config sender) message)
     (node_at world message.from) []
 
--- whatever happens after a message was sent, its documents stay what they are: loading the text that
--- was sent is loading the batches that stand at the message's places
+-- whatever happens after a message was sent, its documents stay what they are: loading the text
+-- that was sent is loading the batches that stand at the message's places
 abbrev pub MessagesStayWritten : Type 0
 MessagesStayWritten = (config : Config) → IsSound config → (noise : List ℕ)
     (older newer : List WorldEvent) → AreNew config noise older → All (λ (message : Message).

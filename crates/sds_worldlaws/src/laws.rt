@@ -27,9 +27,9 @@ pub fn worlds_stay_in_step()
     ensures step { WorldsStayInStep }
 {}
 
-/// A message that was written when it was sent is what its sender would write of the same batches at
-/// any later time: delivering the text, whose batches go by their numbers, loads what stands at the
-/// message's places.
+/// A message that was written when it was sent is what its sender would write of the same batches
+/// at any later time: delivering the text, whose batches go by their numbers, loads what stands at
+/// the message's places.
 pub fn messages_stay_written()
     ensures stay { MessagesStayWritten }
 {}
