@@ -94,24 +94,6 @@ put config world new are is =
     All-map (Reached config) (one_for new) world.nodes
     (mapped (Reached config) (λ node. Reached config (one_for new node)) world.nodes (λ node before. put_on config new node (has_id (me_of new).id node) is before) are)
 
--- a node that is found
-abbrev pub IfReached : Config → Option Node → Type 0
-IfReached config None = Unit {0}
-IfReached config (Some node) = Reached config node
-
-found_on : (config : Config) (node : Node) (found : Option Node) (b : Bool) → Reached config node → IfReached config found
-    → IfReached config (cond b (Some node) found)
-found_on config node found true is rest = is
-found_on config node found false is rest = rest
-
-found_in : (config : Config) (test : Node → Bool) (nodes : List Node) → All (Reached config) nodes → IfReached config (find test nodes)
-found_in config test [] are = tt
-found_in config test (node ∷ nodes) are =
-    found_on config node (find test nodes) (test node) (all_head (Reached config) node nodes are) (found_in config test nodes (all_tail (Reached config) node nodes are))
-
-pub at_id : (config : Config) (world : World) (id : List ℕ) → AllReached config world → IfReached config (node_at world id)
-at_id config world id are = found_in config (has_id id) world.nodes are
-
 -- A NEW NODE made no call
 pub new_on : (config : Config) (me : Peer) → Reached config (new_node me)
 new_on config me = record { me = me; calls = []; same = refl }
