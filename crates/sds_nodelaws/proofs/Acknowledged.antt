@@ -61,7 +61,7 @@ firsts_pass q (x ∷ xs) down = on (q x) refl (firsts_pass q xs down.1)
 abbrev ok : List OutBatch → List Act → OutBatch → Bool
 ok batches acts batch = list_any (is_ok_for batches batch) (acks_from acts batch.peer)
 
-abbrev Unacked : OutBatch → Type 0
+abbrev pub Unacked : OutBatch → Type 0
 Unacked batch = is_acked batch.standing ≡ false
 
 abbrev q_of : List OutBatch → List Act → OutBatch → Bool
@@ -97,7 +97,7 @@ ok_before batches x y ack less channel peer is =
     below : (a b c : ℕ) → a < b → b ≤ c → a ≤ c
     below a b c first second = omega (arith, first, second)
 
-oks_before : (batches : List OutBatch) (x y : OutBatch) (acks : List Ack) → x.id < y.id → x.channel ≡ y.channel → x.peer ≡ y.peer
+pub oks_before : (batches : List OutBatch) (x y : OutBatch) (acks : List Ack) → x.id < y.id → x.channel ≡ y.channel → x.peer ≡ y.peer
     → list_any (is_ok_for batches y) acks ≡ true → list_any (is_ok_for batches x) acks ≡ true
 oks_before batches x y [] less channel peer is = is
 oks_before batches x y (ack ∷ acks) less channel peer is =
@@ -128,7 +128,7 @@ downs batches acts to channel (x ∷ lane) none lanes ascend = (
 )
 
 -- batches are made unacknowledged
-made_unacked : (config : Config) (opening : State) (runs : List Run) → All Unacked (made_after config opening runs)
+pub made_unacked : (config : Config) (opening : State) (runs : List Run) → All Unacked (made_after config opening runs)
 made_unacked config opening [] = All-nil Unacked
 made_unacked config opening (run ∷ older) = by_act run.act (made_unacked config opening older)
   where

@@ -139,7 +139,7 @@ join_is config state other token act is =
     apart : (t : List ℕ) → own_join_answer config state other token ≡ Ok t → bytes_eq other.id state.me.id ≡ false
     apart t made = on t (not (are_linked config other.group state.me.group)) (is_another state other token) refl _ made
 
-abbrev asked : State → Peer → Option Opening → Result (List ℕ) RegRefusal
+abbrev pub asked : State → Peer → Option Opening → Result (List ℕ) RegRefusal
 asked state asks None = Err reg.NotOpen
 asked state asks (Some opening) = given_answer state asks opening
 

@@ -1,19 +1,15 @@
 -- A node's tables are what its steps made, and what it accepted was made whole.
 use Rattle.std.proofs.Common.{◌≡◌, ℕ, ◌+◌, Bool, true, false, cond, List, [], ◌∷◌, ◌++◌, length, map, Option, None, Some, Ok, Err, refl, sym, ap, subst, ◌∙◌, ◌==◌, All}
-use Rattle.std.specs.List.{enumerate_from, fold}
+use Rattle.std.specs.List.{fold}
 use Rattle.std.specs.Prelude.{nat_le, nat_lt}
 use Rattle.std.proofs.lemmas.List.Elements.{All-nil, All-cons}
 use Rattle.sds_value.specs.declared.table.TableDef.{TableDef}
 use Rattle.sds_types.specs.Limits.{most_write_rows}
 use Rattle.sds_types.specs.declared.config.Config.{Config}
-use Rattle.sds_types.specs.declared.conflict.Resolution.{Resolution}
-use Rattle.sds_types.specs.declared.conflict.Resolution.TheVariants.{Apply, SkipRow, SkipBatch, Broken}
 use Rattle.sds_types.specs.declared.counts.WriterLast.{WriterLast}
 use Rattle.sds_types.specs.declared.lane.LaneError.{LaneError}
 use Rattle.sds_types.specs.declared.load_answer.LoadAnswer.TheVariants as answer
 use Rattle.sds_types.specs.declared.load_answer.PeerRefusal.TheVariants as refused
-use Rattle.sds_types.specs.declared.prepared.Body.{Body}
-use Rattle.sds_types.specs.declared.prepared.Body.TheVariants as body
 use Rattle.sds_types.specs.declared.prepared.Prepared.{Prepared}
 use Rattle.sds_types.specs.declared.row.RowStep.{RowStep}
 use Rattle.sds_types.specs.declared.row.TableRow.{TableRow}
@@ -21,10 +17,10 @@ use Rattle.sds_types.specs.declared.tx_row.TxRow.{TxRow}
 use Rattle.sds_types.specs.declared.write_answer.WriteRefusal.TheVariants.{OldNumber, GapNumber, TooManyRows}
 use Rattle.sds_trade.proofs.RunKeeps.{batches_go_by_step, writes_go_by_step}
 use Rattle.sds_trade.specs.laws.Runs.{rows_after_all}
-use Rattle.sds_trade.specs.rules.Captured.{Done, overflows}
-use Rattle.sds_trade.specs.rules.Outcomes.{batch_judge, by_body, by_channel, outcome_of_batch, with_number}
-use Rattle.sds_trade.specs.rules.OwnWrites.{outcome_of_write, own_judge}
-use Rattle.sds_trade.specs.rules.Runs.{RunEnd, by_step_rules, done_of, run, with_done}
+use Rattle.sds_trade.specs.rules.Captured.{Done}
+use Rattle.sds_trade.specs.rules.Outcomes.{outcome_of_batch}
+use Rattle.sds_trade.specs.rules.OwnWrites.{outcome_of_write}
+use Rattle.sds_trade.specs.rules.Runs.{RunEnd}
 use Rattle.sds_trade.specs.rules.Runs.RunEnd.{Made, Ignored, Refused}
 use Rattle.sds_trade.specs.rules.Steps.{rows_after}
 use Rattle.sds_history.specs.history.Acts.{Act, History, State}

@@ -7,6 +7,7 @@ use Rattle.std.proofs.lemmas.List.Concat.{flat_map-cons}
 use Rattle.std.proofs.lemmas.List.Elements.{All-nil, All-cons, All-append}
 use Rattle.sds_trade.proofs.Lists.{all_head, all_tail}
 use Rattle.sds_nodelaws.proofs.Held.{mapped}
+use Rattle.sds_nodelaws.proofs.Tests.{or_cases}
 
 -- one of two things holds
 pub data Either (A B : Type 0) : Type 0 where
@@ -172,6 +173,12 @@ any_true p x (y ∷ ys) (right rest) pass = or_right (p y) (list_any p ys) (any_
     or_right : (a b : Bool) → b ≡ true → (a || b) ≡ true
     or_right true b is = refl
     or_right false b is = is
+
+-- where some element passes and something holds of each, it holds of one that passes
+pub any_gives : {X G : Type 0} (p : X → Bool) (Q : X → Type 0) (xs : List X) → list_any p xs ≡ true → All Q xs → ((x : X) → p x ≡ true → Q x → G) → G
+any_gives p Q [] is are gives = absurd (true≢false (sym is))
+any_gives p Q (x ∷ xs) is are gives =
+    or_cases (p x) (list_any p xs) is (λ here. gives x here (all_head Q x xs are)) (λ rest. any_gives p Q xs rest (all_tail Q x xs are) gives)
 
 -- numbers that count on ascend
 abbrev pub Above : {X : Type 0} → (X → ℕ) → X → X → Type 0

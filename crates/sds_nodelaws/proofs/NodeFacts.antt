@@ -31,7 +31,7 @@ use Rattle.sds_history.specs.history.Acts.Act.{Opened, Joined, Confirmed, Wrote,
 use Rattle.sds_history.specs.history.Changes.{run_after, unrouted_after}
 use Rattle.sds_history.specs.history.Lanes.{empty_lane, is_ignored, is_lane, lane_key, lane_of}
 use Rattle.sds_history.specs.history.Made.{batches_by, out_batch}
-use Rattle.sds_history.specs.history.Orders.{is_before, item_at, with_item}
+use Rattle.sds_history.specs.history.Orders.{item_at}
 use Rattle.sds_history.specs.history.Peers.{kept_peer, peer_key, peers_by}
 use Rattle.sds_history.specs.history.Standings.{acks_in, is_acked, is_error_of, is_ok_for, last_error, with_standing}
 use Rattle.sds_history.specs.history.States.{state_after}
@@ -40,6 +40,7 @@ use Rattle.sds_nodelaws.proofs.Channels.{At, numbered_all, sorted_all}
 use Rattle.sds_nodelaws.proofs.Counted.{batches_count_on, changes_count_on, ranges_append}
 use Rattle.sds_nodelaws.proofs.Held.{all_of, first_all, last_all, mapped}
 use Rattle.sds_nodelaws.proofs.Items.{itself, other_item}
+use Rattle.sds_nodelaws.proofs.KeyedLists.{item_all, places_within}
 use Rattle.sds_nodelaws.proofs.Tests.{at_most}
 use Rattle.sds_nodelaws.proofs.Lists.{In, all_flat, filter_all, filter_none, find_all, from_lt, from_not_lt, in_all, map_all, most_in_range, no_some, unmap_all}
 use Rattle.sds_nodelaws.proofs.Lists.Either.{left, right}
@@ -153,23 +154,26 @@ IsUnsaid act = (peer : List ℕ) → acks_in peer act ≡ []
 pub batches_after : (config : Config) (state : State) (act : Act) → IsUnsaid act → (state_after config state act).batches ≡ state.batches ++ added config state act
 batches_after config state act none = unsaid (state.batches ++ added config state act) act (state.batches ++ added config state act) none
 
--- NEW BATCHES go to kept peers, and hold changes that were captured
-abbrev Made : ℕ → ℕ → NewBatch → Type 0
-Made peers last batch = (batch.peer < peers) × All (λ (n : ℕ). n ≤ last) batch.changes
+-- NEW BATCHES go to kept peers in channels that are there, and hold changes that were captured
+abbrev pub Made : ℕ → ℕ → (ℕ → Type 0) → NewBatch → Type 0
+Made peers channels P batch = (batch.peer < peers) × (batch.channel < channels) × All P batch.changes
+
+abbrev pub Holds : (ℕ → Type 0) → Change → Type 0
+Holds P change = P change.id
 
 abbrev pub CutOk : ℕ → Change → Type 0
 CutOk last change = change.id ≤ last
 
-pieces_ok : (peers last channel peer : ℕ) (pieces : List (List Change)) → peer < peers → All (CutOk last) (changes_in pieces)
-    → All (Made peers last) (map (batch_in channel peer) pieces)
-pieces_ok peers last channel peer [] less are = All-nil (Made peers last)
-pieces_ok peers last channel peer (piece ∷ pieces) less are =
-    All-cons (Made peers last) (batch_in channel peer piece) (map (batch_in channel peer) pieces)
-    (less, map_all (λ (n : ℕ). n ≤ last) (λ (c : Change). c.id) piece (first_all (CutOk last) piece (changes_in pieces) are))
-    (pieces_ok peers last channel peer pieces less (last_all (CutOk last) piece (changes_in pieces) are))
+pieces_ok : (peers channels : ℕ) (P : ℕ → Type 0) (channel peer : ℕ) (pieces : List (List Change)) → peer < peers → channel < channels
+    → All (Holds P) (changes_in pieces) → All (Made peers channels P) (map (batch_in channel peer) pieces)
+pieces_ok peers channels P channel peer [] less there are = All-nil (Made peers channels P)
+pieces_ok peers channels P channel peer (piece ∷ pieces) less there are =
+    All-cons (Made peers channels P) (batch_in channel peer piece) (map (batch_in channel peer) pieces)
+    (less, there, map_all P (λ (c : Change). c.id) piece (first_all (Holds P) piece (changes_in pieces) are))
+    (pieces_ok peers channels P channel peer pieces less there (last_all (Holds P) piece (changes_in pieces) are))
 
-abbrev Aimed : ℕ → ℕ → Change × List ℕ → Type 0
-Aimed peers last at = All (λ (t : ℕ). t < peers) at.1 × CutOk last at.0
+abbrev Aimed : ℕ → (ℕ → Type 0) → Change × List ℕ → Type 0
+Aimed peers P at = All (λ (t : ℕ). t < peers) at.1 × Holds P at.0
 
 none_at : (targets : List ℕ) (peers peer : ℕ) → peers ≤ peer → All (λ (t : ℕ). t < peers) targets → list_any (λ (t : ℕ). t == peer) targets ≡ false
 none_at [] peers peer past are = refl
@@ -180,11 +184,11 @@ none_at (t ∷ targets) peers peer past are =
     differ : (a b n : ℕ) → n ≤ b → a < n → (a == b) ≡ false
     differ a b n past less = grind (arith, nat_tests, past, less)
 
-none_past : (routed : List (Change × List ℕ)) (peers last channel peer : ℕ) → peers ≤ peer → All (Aimed peers last) routed
+none_past : (routed : List (Change × List ℕ)) (peers : ℕ) (P : ℕ → Type 0) (channel peer : ℕ) → peers ≤ peer → All (Aimed peers P) routed
     → lane_changes routed channel peer ≡ []
-none_past routed peers last channel peer past are =
+none_past routed peers P channel peer past are =
     ap (map (λ (at : Change × List ℕ). at.0)) (filter_none (is_for channel peer) routed
-    (mapped (Aimed peers last) (λ (at : Change × List ℕ). is_for channel peer at ≡ false) routed
+    (mapped (Aimed peers P) (λ (at : Change × List ℕ). is_for channel peer at ≡ false) routed
     (λ at aimed. ap (λ b. at.0.channel == channel && b) (none_at at.1 peers peer past aimed.0) ∙ and_false (at.0.channel == channel)) are))
   where
     and_false : (a : Bool) → (a && false) ≡ false
@@ -196,80 +200,89 @@ nothing_cut Default max = refl
 nothing_cut Transactional max = refl
 nothing_cut Nontransactional max = refl
 
-lane_ok : (routed : List (Change × List ℕ)) (peers last peer : ℕ) (at : At) → 1 ≤ at.1.max_batch_size → All (Aimed peers last) routed
-    → All (Made peers last) (lane_batches routed at peer)
-lane_ok routed peers last peer at some are = lane_on (nat_lt peer peers) refl
+-- a channel with its place
+abbrev Stands : ℕ → At → Type 0
+Stands channels at = (1 ≤ at.1.max_batch_size) × (at.0 < channels)
+
+lane_ok : (routed : List (Change × List ℕ)) (peers channels : ℕ) (P : ℕ → Type 0) (peer : ℕ) (at : At) → Stands channels at → All (Aimed peers P) routed
+    → All (Made peers channels P) (lane_batches routed at peer)
+lane_ok routed peers channels P peer at stands are = lane_on (nat_lt peer peers) refl
   where
-    lane_on : (b : Bool) → nat_lt peer peers ≡ b → All (Made peers last) (lane_batches routed at peer)
+    lane_on : (b : Bool) → nat_lt peer peers ≡ b → All (Made peers channels P) (lane_batches routed at peer)
     lane_on true less =
-        pieces_ok peers last at.0 peer (cut at.1.batch_algorithm at.1.max_batch_size (lane_changes routed at.0 peer)) (from_lt peer peers less)
-        (subst (All (CutOk last)) (sym (cut_is_a_cut at.1.batch_algorithm at.1.max_batch_size (lane_changes routed at.0 peer) some).1)
-        (map_all (CutOk last) (λ (a : Change × List ℕ). a.0) (filter (is_for at.0 peer) routed)
-        (filter_all (λ (a : Change × List ℕ). CutOk last a.0) (is_for at.0 peer) routed
-        (mapped (Aimed peers last) (λ (a : Change × List ℕ). CutOk last a.0) routed (λ a aimed. aimed.1) are))))
+        pieces_ok peers channels P at.0 peer (cut at.1.batch_algorithm at.1.max_batch_size (lane_changes routed at.0 peer)) (from_lt peer peers less) stands.1
+        (subst (All (Holds P)) (sym (cut_is_a_cut at.1.batch_algorithm at.1.max_batch_size (lane_changes routed at.0 peer) stands.0).1)
+        (map_all (Holds P) (λ (a : Change × List ℕ). a.0) (filter (is_for at.0 peer) routed)
+        (filter_all (λ (a : Change × List ℕ). Holds P a.0) (is_for at.0 peer) routed
+        (mapped (Aimed peers P) (λ (a : Change × List ℕ). Holds P a.0) routed (λ a aimed. aimed.1) are))))
     lane_on false past =
-        subst (λ cs. All (Made peers last) (map (batch_in at.0 peer) (cut at.1.batch_algorithm at.1.max_batch_size cs)))
-        (sym (none_past routed peers last at.0 peer (from_not_lt peer peers past) are))
-        (subst (λ ps. All (Made peers last) (map (batch_in at.0 peer) ps)) (sym (nothing_cut at.1.batch_algorithm at.1.max_batch_size)) (All-nil (Made peers last)))
+        subst (λ cs. All (Made peers channels P) (map (batch_in at.0 peer) (cut at.1.batch_algorithm at.1.max_batch_size cs)))
+        (sym (none_past routed peers P at.0 peer (from_not_lt peer peers past) are))
+        (subst (λ ps. All (Made peers channels P) (map (batch_in at.0 peer) ps)) (sym (nothing_cut at.1.batch_algorithm at.1.max_batch_size))
+        (All-nil (Made peers channels P)))
 
-numbered_ok : (peers last first : ℕ) (batches : List NewBatch) → All (Made peers last) batches
-    → All (Made peers last) (map numbered_batch (enumerate_from first batches))
-numbered_ok peers last first [] are = All-nil (Made peers last)
-numbered_ok peers last first (batch ∷ batches) are =
-    All-cons (Made peers last) (numbered_batch (first, batch)) (map numbered_batch (enumerate_from (first + 1) batches))
-    (all_head (Made peers last) batch batches are) (numbered_ok peers last (first + 1) batches (all_tail (Made peers last) batch batches are))
+numbered_ok : (peers channels : ℕ) (P : ℕ → Type 0) (first : ℕ) (batches : List NewBatch) → All (Made peers channels P) batches
+    → All (Made peers channels P) (map numbered_batch (enumerate_from first batches))
+numbered_ok peers channels P first [] are = All-nil (Made peers channels P)
+numbered_ok peers channels P first (batch ∷ batches) are =
+    All-cons (Made peers channels P) (numbered_batch (first, batch)) (map numbered_batch (enumerate_from (first + 1) batches))
+    (all_head (Made peers channels P) batch batches are) (numbered_ok peers channels P (first + 1) batches (all_tail (Made peers channels P) batch batches are))
 
-sizes : (config : Config) → IsSound config → All (λ (at : At). 1 ≤ at.1.max_batch_size) (channels_in_order config)
-sizes config sound =
-    sorted_all (λ (at : At). 1 ≤ at.1.max_batch_size) (enumerate_from 0 config.channels)
-    (numbered_all (λ (c : ChannelDef). 1 ≤ c.max_batch_size) 0 config.channels
-    (mapped IsChannel (λ (c : ChannelDef). 1 ≤ c.max_batch_size) config.channels (λ c is. is.size) sound.channels.each))
+no_first : (n : ℕ) → 0 + n ≡ n
+no_first n = omega arith
 
-batches_ok : (config : Config) (peers last first : ℕ) (routed : List (Change × List ℕ)) → IsSound config → All (Aimed peers last) routed
-    → All (Made peers last) (batches_of config first routed)
-batches_ok config peers last first routed sound are =
-    numbered_ok peers last first
+stand : (config : Config) → IsSound config → All (Stands (length config.channels)) (channels_in_order config)
+stand config sound =
+    sorted_all (Stands (length config.channels)) (enumerate_from 0 config.channels)
+    (λ k d within. (
+      numbered_all (λ (c : ChannelDef). 1 ≤ c.max_batch_size) 0 config.channels
+          (mapped IsChannel (λ (c : ChannelDef). 1 ≤ c.max_batch_size) config.channels (λ c is. is.size) sound.channels.each) k d within,
+      subst (λ n. All (λ (at : At). at.0 < n) (enumerate_from 0 config.channels)) (no_first (length config.channels)) (places_within 0 config.channels) k d within,
+    ))
+
+batches_ok : (config : Config) (peers : ℕ) (P : ℕ → Type 0) (first : ℕ) (routed : List (Change × List ℕ)) → IsSound config → All (Aimed peers P) routed
+    → All (Made peers (length config.channels) P) (batches_of config first routed)
+batches_ok config peers P first routed sound are =
+    let channels : ℕ = length config.channels in
+    numbered_ok peers channels P first
     (flat_map (λ (at : At). flat_map (lane_batches routed at) (range_with_len 0 (peers_named routed))) (channels_in_order config))
-    (all_flat (Made peers last) (λ (at : At). flat_map (lane_batches routed at) (range_with_len 0 (peers_named routed))) (channels_in_order config)
-    (mapped (λ (at : At). 1 ≤ at.1.max_batch_size)
-    (λ (at : At). All (Made peers last) (flat_map (lane_batches routed at) (range_with_len 0 (peers_named routed)))) (channels_in_order config)
-    (λ at some. all_flat (Made peers last) (lane_batches routed at) (range_with_len 0 (peers_named routed))
-    (all_of (λ (p : ℕ). All (Made peers last) (lane_batches routed at p)) (range_with_len 0 (peers_named routed))
-    (λ p. lane_ok routed peers last p at some are))) (sizes config sound)))
+    (all_flat (Made peers channels P) (λ (at : At). flat_map (lane_batches routed at) (range_with_len 0 (peers_named routed))) (channels_in_order config)
+    (mapped (Stands channels)
+    (λ (at : At). All (Made peers channels P) (flat_map (lane_batches routed at) (range_with_len 0 (peers_named routed)))) (channels_in_order config)
+    (λ at stands. all_flat (Made peers channels P) (lane_batches routed at) (range_with_len 0 (peers_named routed))
+    (all_of (λ (p : ℕ). All (Made peers channels P) (lane_batches routed at p)) (range_with_len 0 (peers_named routed))
+    (λ p. lane_ok routed peers channels P p at stands are))) (stand config sound)))
 
-places_in : (first : ℕ) (peers : List Peer) → All (λ (at : ℕ × Peer). at.0 < first + length peers) (enumerate_from first peers)
-places_in first [] = All-nil (λ (at : ℕ × Peer). at.0 < first + 0)
-places_in first (peer ∷ peers) =
-    All-cons (λ (at : ℕ × Peer). at.0 < first + suc (length peers)) (first, peer) (enumerate_from (first + 1) peers) (here first (length peers))
-    (mapped (λ (at : ℕ × Peer). at.0 < (first + 1) + length peers) (λ (at : ℕ × Peer). at.0 < first + suc (length peers)) (enumerate_from (first + 1) peers)
-    (λ at less. later first (length peers) at.0 less) (places_in (first + 1) peers))
-  where
-    here : (b m : ℕ) → b < b + suc m
-    here b m = omega arith
-
-    later : (b m k : ℕ) → k < (b + 1) + m → k < b + suc m
-    later b m k less = omega (arith, less)
-
-abbrev peers_in : State → List Peer
+abbrev pub peers_in : State → List Peer
 peers_in state = map (λ (kept : KeptPeer). kept.peer) state.peers
 
-aimed_all : (config : Config) (state : State) (changes : List Change) → All (CutOk state.counts.last_change) changes
-    → All (Aimed (length (peers_in state)) state.counts.last_change) (routed_changes config state.me state.tables (peers_in state) changes)
-aimed_all config state changes are =
-    map_all (Aimed (length (peers_in state)) state.counts.last_change)
+aimed_all : (config : Config) (state : State) (P : ℕ → Type 0) (changes : List Change) → All (Holds P) changes
+    → All (Aimed (length (peers_in state)) P) (routed_changes config state.me state.tables (peers_in state) changes)
+aimed_all config state P changes are =
+    map_all (Aimed (length (peers_in state)) P)
     (λ (change : Change). (change, targets_of config state.me state.tables (peers_in state) change)) changes
-    (mapped (CutOk state.counts.last_change)
-    (λ (change : Change). Aimed (length (peers_in state)) state.counts.last_change (change, targets_of config state.me state.tables (peers_in state) change)) changes
+    (mapped (Holds P)
+    (λ (change : Change). Aimed (length (peers_in state)) P (change, targets_of config state.me state.tables (peers_in state) change)) changes
     (λ change ok. (
       map_all (λ (t : ℕ). t < length (peers_in state)) (λ (at : ℕ × Peer). at.0)
           (filter (λ (at : ℕ × Peer). is_named config state.me state.tables change at.1) (enumerate_from 0 (peers_in state)))
           (filter_all (λ (at : ℕ × Peer). at.0 < length (peers_in state)) (λ (at : ℕ × Peer). is_named config state.me state.tables change at.1) (enumerate_from 0 (peers_in state))
-          (subst (λ n. All (λ (at : ℕ × Peer). at.0 < n) (enumerate_from 0 (peers_in state))) (no_first (length (peers_in state))) (places_in 0 (peers_in state)))),
+          (subst (λ n. All (λ (at : ℕ × Peer). at.0 < n) (enumerate_from 0 (peers_in state))) (no_first (length (peers_in state))) (places_within 0 (peers_in state)))),
       ok,
     )) are)
-  where
-    no_first : (n : ℕ) → 0 + n ≡ n
-    no_first n = omega arith
+
+-- those of a routing run, where something holds of the numbers of all changes
+abbrev pub run_batches : Config → State → List NewBatch
+run_batches config state = batches_of config (state.counts.last_batch + 0 + 1)
+    (routed_changes config state.me state.tables (peers_in state) (unrouted_after config state []))
+
+pub run_makes : (config : Config) (state : State) (P : ℕ → Type 0) → IsSound config → All (Holds P) state.changes
+    → All (Made (length (peers_in state)) (length config.channels) P) (run_batches config state)
+run_makes config state P sound are =
+    batches_ok config (length (peers_in state)) P (state.counts.last_batch + 0 + 1)
+    (routed_changes config state.me state.tables (peers_in state) (unrouted_after config state [])) sound
+    (aimed_all config state P (unrouted_after config state [])
+    (filter_all (Holds P) (λ (change : Change). nat_lt state.counts.routed change.id) state.changes are))
 
 -- a batch that is made
 abbrev pub GoesOut : State → OutBatch → Type 0
@@ -282,22 +295,20 @@ peer_at all (kept ∷ peers) zero are less = all_head (λ (k : KeptPeer). IsKept
 peer_at all (kept ∷ peers) (suc place) are less =
     peer_at all peers place (all_tail (λ (k : KeptPeer). IsKept all k.peer.id) kept peers are) (omega (arith, less))
 
+pub run_peer : (state : State) (place : ℕ) → place < length (peers_in state)
+    → IsKept state.peers (option_map_or (λ (peer : Peer). peer.id) (slice_get (peers_in state) place) [])
+run_peer state place less =
+    peer_at state.peers state.peers place (in_all (λ (k : KeptPeer). IsKept state.peers k.peer.id) state.peers (λ k is. finds_itself k state.peers is)) less
+
 pub added_goes_out : (config : Config) (state : State) (act : Act) → IsSound config → All (CutOk state.counts.last_change) state.changes
     → All (GoesOut state) (added config state act)
 added_goes_out config state Routed sound are =
-    let unrouted : List Change = unrouted_after config state [] in
-    map_all (GoesOut state) (out_batch (peers_in state)) (batches_of config (state.counts.last_batch + 0 + 1)
-    (routed_changes config state.me state.tables (peers_in state) unrouted))
-    (mapped (Made (length (peers_in state)) state.counts.last_change) (λ (b : NewBatch). GoesOut state (out_batch (peers_in state) b))
-    (batches_of config (state.counts.last_batch + 0 + 1) (routed_changes config state.me state.tables (peers_in state) unrouted))
-    (λ batch made. (
-      peer_at state.peers state.peers batch.peer (in_all (λ (k : KeptPeer). IsKept state.peers k.peer.id) state.peers
-          (λ k is. finds_itself k state.peers is)) made.0,
-      made.1,
-    ))
-    (batches_ok config (length (peers_in state)) state.counts.last_change (state.counts.last_batch + 0 + 1)
-    (routed_changes config state.me state.tables (peers_in state) unrouted) sound
-    (aimed_all config state unrouted (filter_all (CutOk state.counts.last_change) (λ (change : Change). nat_lt state.counts.routed change.id) state.changes are))))
+    let P = λ (n : ℕ). n ≤ state.counts.last_change in
+    map_all (GoesOut state) (out_batch (peers_in state)) (run_batches config state)
+    (mapped (Made (length (peers_in state)) (length config.channels) P) (λ (b : NewBatch). GoesOut state (out_batch (peers_in state) b))
+    (run_batches config state)
+    (λ batch made. (run_peer state batch.peer made.0, made.2))
+    (run_makes config state P sound are))
 added_goes_out config state (Opened group external token) sound are = All-nil (GoesOut state)
 added_goes_out config state (Joined kept) sound are = All-nil (GoesOut state)
 added_goes_out config state (Confirmed peer) sound are = All-nil (GoesOut state)
@@ -383,12 +394,6 @@ came_now config state (Erred from channel error) suits = tt
 came_now config state (Acked from acks) suits = tt
 
 -- LANES
-item_all : {A : Type 0} (P : A → Type 0) (key : A → List ℕ) (new : A) (items : List A) → P new → All P items → All P (with_item key new items)
-item_all P key new items is are =
-    All-append P (filter (λ item. is_before (key item) (key new)) items) (new ∷ filter (λ item. is_before (key new) (key item)) items)
-    (filter_all P (λ item. is_before (key item) (key new)) items are)
-    (All-cons P new (filter (λ item. is_before (key new) (key item)) items) is (filter_all P (λ item. is_before (key new) (key item)) items are))
-
 lanes_stay : (config : Config) (state : State) (act : Act) → Suits config state act → All (λ (lane : LaneIn). IsKept state.peers lane.peer) state.lanes
     → All (λ (lane : LaneIn). IsKept (state_after config state act).peers lane.peer) (state_after config state act).lanes
 lanes_stay config state (Loaded channel batch) suits are =

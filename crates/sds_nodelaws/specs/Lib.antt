@@ -7,3 +7,5 @@ pub mod Splicing
 pub mod Ending
 pub mod Acknowledged
 pub mod Documents
+pub mod Asked
+pub mod Sound

@@ -5,6 +5,7 @@ ghost use Rattle.sds_nodelaws.specs.Counters.{ChangesCountOn, BatchesCountOn};
 ghost use Rattle.sds_nodelaws.specs.Documents.{DocumentsStay};
 ghost use Rattle.sds_nodelaws.specs.Ending.{AcceptedEndWell, TablesAreSteps};
 ghost use Rattle.sds_nodelaws.specs.Routing.{RoutedInOneBatch};
+ghost use Rattle.sds_nodelaws.specs.Sound.{CallsKeepStatesSound, NodesStaySound};
 ghost use Rattle.sds_nodelaws.specs.Splicing.{CallsStepOn, HistoriesSplice};
 ghost use Rattle.sds_nodelaws.specs.Standings.{OkIsFinal};
 ghost use Rattle.sds_nodelaws.specs.Writers.{WritersCount, LastIsKept};
@@ -75,4 +76,14 @@ pub fn acknowledged_come_first()
 /// whenever it is asked for, whatever the node did in between.
 pub fn documents_stay()
     ensures stay { DocumentsStay }
+{}
+
+/// What a node has stays sound. Under a sound configuration a call whose caller keeps to its part
+/// leaves a sound state sound: the rows are tables whose references hold, each change and each
+/// batch is counted and kept, what waits to be routed is there, acknowledged batches come first in
+/// their lane, each opening went to a peer of its own, and no counter is past its end. So a node
+/// that began with an identity that fits the configuration is sound after whatever it was asked.
+pub fn calls_keep_states_sound()
+    ensures call { CallsKeepStatesSound }
+    ensures node { NodesStaySound }
 {}

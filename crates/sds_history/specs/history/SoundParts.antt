@@ -12,6 +12,7 @@ use Rattle.sds_types.specs.declared.batch.Standing.{Standing}
 use Rattle.sds_types.specs.declared.batch.Standing.TheVariants as standing
 use Rattle.sds_types.specs.declared.config.Config.{Config}
 use Rattle.sds_types.specs.declared.counts.Counts.{Counts}
+use Rattle.sds_types.specs.declared.lane.LaneError.{LaneError}
 use Rattle.sds_types.specs.declared.lane.LaneIn.{LaneIn}
 use Rattle.sds_types.specs.declared.peer.KeptPeer.{KeptPeer}
 use Rattle.sds_types.specs.declared.registration.Opening.{Opening}
@@ -78,10 +79,15 @@ is_standing other = true
 abbrev pub is_batch : Config → OutBatch → Bool
 is_batch config batch = nat_lt batch.channel (length config.channels) && is_standing batch.standing
 
--- a lane's error is after its highest batch
+-- where a lane has a batch in error, its number is at most the end of the counters
+abbrev pub error_is_within : LaneIn → Bool
+error_is_within lane =
+    option_map_or (λ (error : LaneError). nat_le error.batch most_count) lane.error true
+
+-- the channel of a lane is in the configuration, and both its numbers are at most that end
 abbrev pub is_lane_of : Config → LaneIn → Bool
 is_lane_of config lane = nat_lt lane.channel (length config.channels)
-    && nat_le lane.highest most_count
+    && (nat_le lane.highest most_count && error_is_within lane)
 
 -- no counter is past its end, and all are 0 where no act was made
 abbrev pub zero_if : Counts → Bool
