@@ -1,2 +1,3 @@
--- The words that the contracts of kept records share.
-pub mod Parts
+-- What contracts say of a node's state.
+pub mod Meaning
+pub mod Reading

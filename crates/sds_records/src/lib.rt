@@ -1,0 +1,29 @@
+//! A node's state as its keeper has it: the records of its parts, and the edits that put and drop
+//! them.
+#![tactic(auto)]
+
+mod edits;
+mod fields;
+mod forms;
+mod keys;
+mod names;
+mod part;
+mod pieces;
+mod reading;
+mod rows;
+mod tellings;
+#[cfg(test)]
+mod tests;
+#[cfg(test)]
+mod tests_parts;
+#[cfg(test)]
+mod tests_reading;
+#[cfg(test)]
+mod tests_rows;
+mod told;
+mod told_rows;
+
+pub use edits::{drop_part, put_part};
+pub use part::Part;
+pub use reading::read_record;
+pub use told::Told;
