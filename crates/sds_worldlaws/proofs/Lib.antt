@@ -15,3 +15,5 @@ pub mod Keeping
 pub mod Written
 pub mod Progress
 pub mod AnswersInOrder
+pub mod Pushes
+pub mod Waiting

@@ -1,7 +1,9 @@
 //! Laws of every world.
 ghost use Rattle.sds_worldlaws.specs.Nodes.{RoutedOnceEverywhere, WritesCountEverywhere};
 ghost use Rattle.sds_worldlaws.specs.Progress.{RepliesAnswerInOrder, TakenRepliesCount};
+ghost use Rattle.sds_worldlaws.specs.Pushes.{PullsAcknowledge, PushesAcknowledge};
 ghost use Rattle.sds_worldlaws.specs.Stepping.{WorldsStayInStep};
+ghost use Rattle.sds_worldlaws.specs.Waiting.{MessagesBeginWaiting};
 ghost use Rattle.sds_worldlaws.specs.Written.{MessagesStayWritten};
 
 /// After any list of events the writes that each node made of each writer are numbered 1, 2, 3 and
@@ -39,4 +41,22 @@ pub fn messages_stay_written()
 pub fn replies_count()
     ensures order { RepliesAnswerInOrder }
     ensures count { TakenRepliesCount }
+{}
+
+/// A push or a pull that goes well leaves what it carried acknowledged. Under a sound
+/// configuration, after any list of events in which each new node has an id of its own: if it
+/// reports that its message was sent, that the receiver answered each of its batches without an
+/// error, and that the sender took that reply, then every batch of the message is acknowledged at
+/// the sender after it.
+pub fn pushes_acknowledge()
+    ensures push { PushesAcknowledge }
+    ensures pull { PullsAcknowledge }
+{}
+
+/// A message begins with what isn't acknowledged. After any list of events: a message that is sent,
+/// by itself or in a push or a pull, begins in each of its channels with the first batch that its
+/// sender doesn't hold as acknowledged. All batches of the channel to that peer before it are
+/// acknowledged, none from it on is, and where one waits there the message holds at least one.
+pub fn messages_begin_waiting()
+    ensures begin { MessagesBeginWaiting }
 {}

@@ -6,6 +6,6 @@
 mod laws;
 
 pub use laws::{
-    changes_are_routed_once_everywhere, messages_stay_written, replies_count, worlds_stay_in_step,
-    writes_count_everywhere,
+    changes_are_routed_once_everywhere, messages_begin_waiting, messages_stay_written,
+    pushes_acknowledge, replies_count, worlds_stay_in_step, writes_count_everywhere,
 };
