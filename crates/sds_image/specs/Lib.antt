@@ -1,3 +1,4 @@
 -- What contracts say of a node's state.
 pub mod Meaning
+pub mod Pairs
 pub mod Reading
