@@ -12,4 +12,5 @@ mod tests_batches;
 
 pub use cutting::cut;
 pub use making::run;
+pub use order::channels_in_order;
 pub use sds_types::{Algorithm, Cut, NewBatch};

@@ -1,0 +1,4 @@
+pub mod Batches
+pub mod Offering
+pub mod Restating
+pub mod Told
