@@ -21,7 +21,8 @@ use Rattle.sds_history.specs.history.Records.{batch_record, lane_record, writer_
 use Rattle.sds_history.specs.history.RowRecords.{change_record}
 use Rattle.sds_history.specs.history.Runs.{Run, captured_in, dones_of, source_of}
 use Rattle.sds_imagelaws.specs.ActEdits.{EditsOfErrors, EditsOfLoads, EditsOfRoutes, EditsOfWrites, count_edit, loaded_lane}
-use Rattle.sds_imagelaws.specs.Edits.{made_steps, put_if, put_of, puts_of, row_edits}
+use Rattle.sds_records.specs.Parts.{put_edit}
+use Rattle.sds_imagelaws.specs.Edits.{made_steps, put_if, puts_of, row_edits}
 use Rattle.sds_imagelaws.proofs.BatchSteps.{found_passes, lane_found, lane_itself, quiet_all}
 use Rattle.sds_imagelaws.proofs.PartSteps.{writer_found}
 
@@ -67,7 +68,7 @@ rows_and_changes config state act first =
 abbrev write_by : Config → State → List ℕ → ℕ → List TxRow → ℕ → List Edit
 write_by config state writer number rows last = let act = Wrote writer number rows in
     rows_and_changes config state act (last + 1)
-    ++ put_of (writer_record (record { writer = writer; number = number; first = last + 1; count = length (numbered_by config state act (last + 1)) }))
+    ++ put_edit (writer_record (record { writer = writer; number = number; first = last + 1; count = length (numbered_by config state act (last + 1)) }))
     ∷ (count_edit config state act ∷ [])
 
 pub edits_of_writes : EditsOfWrites
@@ -79,8 +80,8 @@ edits_of_writes config state writer number rows =
     let found : WriterLast = record { writer = writer; number = number; first = last + 1; count = length (captured_in config state 0 0 run) } in
     ap (λ kept. row_edits config (made_steps config state act) ++ (puts_of (map (change_record config) (drop (length state.changes) (state.changes ++ captured)))
     ++ (put_if (option_map writer_record kept) ++ count_edit config state act ∷ []))) (writer_found state.writers found)
-    ∙ (run_with config (row_edits config (made_steps config state act)) state.changes captured (put_of (writer_record found) ∷ (count_edit config state act ∷ []))
-    ∙ (ap (λ n. rows_and_changes config state act (last + 1) ++ put_of (writer_record (record found { count = n })) ∷ (count_edit config state act ∷ []))
+    ∙ (run_with config (row_edits config (made_steps config state act)) state.changes captured (put_edit (writer_record found) ∷ (count_edit config state act ∷ []))
+    ∙ (ap (λ n. rows_and_changes config state act (last + 1) ++ put_edit (writer_record (record found { count = n })) ∷ (count_edit config state act ∷ []))
     (captured_count config state (last + 1) (state.counts.last_tx + 1) run)
     ∙ ap (write_by config state writer number rows) (add-zero state.counts.last_change)))
 
@@ -91,15 +92,15 @@ edits_of_loads config state channel batch =
     let captured = numbered_by config state act (last + 1) in
     let new = loaded_lane config state channel batch in
     ap (λ lane. row_edits config (made_steps config state act) ++ (puts_of (map (change_record config) (drop (length state.changes) (state.changes ++ captured)))
-    ++ put_of (lane_record config lane) ∷ (count_edit config state act ∷ [])))
+    ++ put_edit (lane_record config lane) ∷ (count_edit config state act ∷ [])))
     (lane_found config batch.from channel state.lanes new (lane_itself config batch.from channel))
-    ∙ (run_with config (row_edits config (made_steps config state act)) state.changes captured (put_of (lane_record config new) ∷ (count_edit config state act ∷ []))
-    ∙ ap (λ n. rows_and_changes config state act (n + 1) ++ put_of (lane_record config new) ∷ (count_edit config state act ∷ []))
+    ∙ (run_with config (row_edits config (made_steps config state act)) state.changes captured (put_edit (lane_record config new) ∷ (count_edit config state act ∷ []))
+    ∙ ap (λ n. rows_and_changes config state act (n + 1) ++ put_edit (lane_record config new) ∷ (count_edit config state act ∷ []))
     (add-zero state.counts.last_change))
 
 pub edits_of_errors : EditsOfErrors
 edits_of_errors config state from channel error =
-    ap (λ lane. put_of (lane_record config lane) ∷ (count_edit config state (Erred from channel error) ∷ []))
+    ap (λ lane. put_edit (lane_record config lane) ∷ (count_edit config state (Erred from channel error) ∷ []))
     (lane_found config from channel state.lanes (record (lane_of state.lanes from channel) { error = Some error }) (found_passes config from channel state.lanes))
 
 pub edits_of_routes : EditsOfRoutes

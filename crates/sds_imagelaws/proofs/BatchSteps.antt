@@ -22,7 +22,8 @@ use Rattle.sds_history.specs.history.Records.{Record, batch_record, lane_record}
 use Rattle.sds_history.specs.history.SoundStates.{IsSoundState}
 use Rattle.sds_history.specs.history.Standings.{acks_from, is_acked, is_error_of, is_ok_for, last_error, standing_of, with_standing}
 use Rattle.sds_history.specs.history.States.{state_after}
-use Rattle.sds_imagelaws.specs.Edits.{batch_edits, lane_edits, put_of, puts_of, stands_anew}
+use Rattle.sds_records.specs.Parts.{put_edit}
+use Rattle.sds_imagelaws.specs.Edits.{batch_edits, lane_edits, puts_of, stands_anew}
 use Rattle.sds_imagelaws.proofs.Distinct.{Distinct}
 use Rattle.sds_imagelaws.proofs.Parts.{Part}
 use Rattle.sds_imagelaws.proofs.PartSteps.{added_after, batches_distinct, changed_items, item_part, put_found, same_part}
@@ -163,10 +164,10 @@ module _ (config : Config) where
       (put_found (lane_key config) (is_lane from channel) new lanes is (λ x also. one_lane from channel x new also is))
 
   lane_put : (from : List ℕ) (channel : ℕ) (lanes : List LaneIn) (new : LaneIn) → is_lane from channel new ≡ true
-      → Part 8 (put_of (lane_record config (lane_of (with_item (lane_key config) new lanes) from channel)) ∷ [])
+      → Part 8 (put_edit (lane_record config (lane_of (with_item (lane_key config) new lanes) from channel)) ∷ [])
       (map (lane_record config) lanes) (map (lane_record config) (with_item (lane_key config) new lanes))
   lane_put from channel lanes new is =
-      subst (λ lane. Part 8 (put_of (lane_record config lane) ∷ [])
+      subst (λ lane. Part 8 (put_edit (lane_record config lane) ∷ [])
       (map (lane_record config) lanes) (map (lane_record config) (with_item (lane_key config) new lanes)))
       (sym (lane_found from channel lanes new is))
       (item_part 8 (lane_record config) (λ x. refl) (lane_key config) (codes "i/") (λ x. refl) new lanes)

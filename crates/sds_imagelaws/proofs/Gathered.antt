@@ -30,7 +30,7 @@ use Rattle.sds_records.specs.declared.told.Told.{Told}
 use Rattle.sds_records.specs.declared.told.Told.TheVariants.{Me, Counts, Peer, Opening, Writer, Row, Change, Batch, Lane}
 use Rattle.sds_image.specs.Reading.{counts_of_part, first_told, me_of_part, row_of_part, sorted_rows, state_with}
 use Rattle.sds_nodelaws.proofs.Lists.{from_lt}
-use Rattle.sds_imagelaws.specs.Images.{pairs}
+use Rattle.sds_image.specs.Pairs.{pairs}
 use Rattle.sds_imagelaws.proofs.Items.{part_at, part_is, part_put}
 use Rattle.sds_imagelaws.proofs.PartKinds.{Kind, batch_kind, change_kind, counts_kind, lane_kind, me_kind, opening_kind, peer_kind, place_told, row_kind, writer_kind}
 use Rattle.sds_imagelaws.proofs.Lists.{each_append, each_filter}

@@ -24,8 +24,10 @@ use Rattle.sds_history.specs.history.Records.{count_record, me_record}
 use Rattle.sds_history.specs.history.RowRecords.{row_record}
 use Rattle.sds_history.specs.history.SoundStates.{IsSoundState}
 use Rattle.sds_history.specs.history.States.{state_after}
-use Rattle.sds_imagelaws.specs.Edits.{batch_edits, change_edits, edits_of, lane_edits, opening_edits, peer_edits, put_of, row_edits, made_steps, writer_edits}
-use Rattle.sds_imagelaws.specs.Images.{EditsMakeImages, NewNodesHaveOneRecord, PutsFit, StepsFit, pairs}
+use Rattle.sds_records.specs.Parts.{put_edit}
+use Rattle.sds_imagelaws.specs.Edits.{batch_edits, change_edits, edits_of, lane_edits, opening_edits, peer_edits, row_edits, made_steps, writer_edits}
+use Rattle.sds_image.specs.Pairs.{pairs}
+use Rattle.sds_imagelaws.specs.Images.{EditsMakeImages, NewNodesHaveOneRecord, PutsFit, StepsFit}
 use Rattle.sds_imagelaws.proofs.BatchSteps.{batch_part, lane_part}
 use Rattle.sds_imagelaws.proofs.Lists.{each_both, each_by}
 use Rattle.sds_imagelaws.proofs.Lookups.{body_at, body_edited, same_records, told_append, told_by}
@@ -138,7 +140,7 @@ module _ (config : Config) (sound : IsSound config) (state : State) (act : Act) 
   edits = edits_of config state act
 
   abbrev count_edits : List Edit
-  count_edits = put_of (count_record next.counts) ∷ []
+  count_edits = put_edit (count_record next.counts) ∷ []
 
   abbrev ordered : List Edit
   ordered = count_edits ++ (peer_edits act ++ (opening_edits state act ++ (writer_edits next act

@@ -6,7 +6,7 @@ use Rattle.std.specs.Ordering.{is_lt, ordering_reverse}
 use Rattle.std.specs.Str.{bytes_eq}
 use Rattle.std.proofs.lemmas.Cmp.{tied_itself}
 use Rattle.sds_history.specs.history.Records.{Record}
-use Rattle.sds_imagelaws.specs.Images.{pairs}
+use Rattle.sds_image.specs.Pairs.{pairs}
 use Rattle.sds_imagelaws.proofs.Lists.{each_by}
 use Rattle.sds_imagelaws.proofs.Lookups.{body_at}
 use Rattle.sds_imagelaws.proofs.Tests.{equal, first_of, first_on}

@@ -22,7 +22,7 @@ use Rattle.sds_records.specs.Told.{record_of_told}
 use Rattle.sds_records.specs.declared.told.Told.{Told}
 use Rattle.sds_records.specs.declared.told.Told.TheVariants.{Me, Counts, Peer, Opening, Writer, Row, Change, Batch, Lane}
 use Rattle.sds_image.specs.Reading.{batch_of_part, change_of_part, counts_of_part, lane_of_part, me_of_part, opening_of_part, peer_of_part, row_of_part, writer_of_part}
-use Rattle.sds_imagelaws.specs.Images.{pairs}
+use Rattle.sds_image.specs.Pairs.{pairs}
 use Rattle.sds_imagelaws.proofs.Lookups.{body_at}
 use Rattle.sds_imagelaws.proofs.Parts.{other_place, place_of}
 use Rattle.sds_imagelaws.proofs.Tests.{differs}

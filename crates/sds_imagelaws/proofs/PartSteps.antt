@@ -30,7 +30,8 @@ use Rattle.sds_history.specs.history.SoundParts.{AscendBy}
 use Rattle.sds_history.specs.history.SoundStates.{IsSoundState, is_counted, is_counted_batch, is_counted_change}
 use Rattle.sds_history.specs.history.States.{state_after}
 use Rattle.sds_history.specs.history.Writers.{writer_key, writer_of}
-use Rattle.sds_imagelaws.specs.Edits.{change_edits, new_openings, peer_edits, put_if, put_of, puts_of, writer_edits}
+use Rattle.sds_records.specs.Parts.{put_edit}
+use Rattle.sds_imagelaws.specs.Edits.{change_edits, new_openings, peer_edits, put_if, puts_of, writer_edits}
 use Rattle.sds_imagelaws.proofs.Distinct.{Distinct, added_part, ascending_distinct, changed_part}
 use Rattle.sds_imagelaws.proofs.Items.{part_at, part_is}
 use Rattle.sds_imagelaws.proofs.Keys.{same_id}
@@ -55,9 +56,9 @@ module _ {A : Type 0} (place : ℕ) (kept : A → Record) (at : (x : A) → plac
   same_part xs = part_of [] xs xs tt (λ key. refl)
 
   pub item_part : (key : A → List ℕ) (front : List ℕ) → ((x : A) → (kept x).key ≡ front ++ key x) → (new : A) (xs : List A)
-      → Part place (put_of (kept new) ∷ []) (map kept xs) (map kept (with_item key new xs))
+      → Part place (put_edit (kept new) ∷ []) (map kept xs) (map kept (with_item key new xs))
   item_part key front keyed new xs =
-      part_of (put_of (kept new) ∷ []) xs (with_item key new xs) (at new, tt) (λ wanted. sym (part_with_item kept key front keyed new xs wanted))
+      part_of (put_edit (kept new) ∷ []) xs (with_item key new xs) (at new, tt) (λ wanted. sym (part_with_item kept key front keyed new xs wanted))
 
   pub changed_items : (f : A → A) (changed : A → Bool) → ((x : A) → (kept (f x)).key ≡ (kept x).key)
       → ((x : A) → changed x ≡ false → kept (f x) ≡ kept x) → (xs : List A) → Distinct kept xs
@@ -84,7 +85,7 @@ me_part kept at = record { goes = λ key. refl; own = tt; old = (at, tt); new = 
 next_acts : (n : ℕ) → (n + 1 == 0) ≡ false
 next_acts n = grind (arith, nat_tests)
 
-count_goes : (before after : Counts) (b : Bool) → Goes (put_of (count_record after) ∷ []) (cond b [] (count_record before ∷ [])) (count_record after ∷ [])
+count_goes : (before after : Counts) (b : Bool) → Goes (put_edit (count_record after) ∷ []) (cond b [] (count_record before ∷ [])) (count_record after ∷ [])
 count_goes before after true key = refl
 count_goes before after false key = on (bytes_eq (codes "count") key)
   where
@@ -97,9 +98,9 @@ count_old counts true = tt
 count_old counts false = (refl, tt)
 
 pub count_part : (before after : Counts) (acts : ℕ) → after.acts ≡ acts + 1
-    → Part 1 (put_of (count_record after) ∷ []) (count_records before) (count_records after)
+    → Part 1 (put_edit (count_record after) ∷ []) (count_records before) (count_records after)
 count_part before after acts more =
-    subst (λ b. Part 1 (put_of (count_record after) ∷ []) (count_records before) (cond b [] (count_record after ∷ [])))
+    subst (λ b. Part 1 (put_edit (count_record after) ∷ []) (count_records before) (cond b [] (count_record after ∷ [])))
     (sym (ap (λ n. n == 0) more ∙ next_acts acts))
     (record { goes = count_goes before after (before.acts == 0); own = (refl, tt); old = count_old before (before.acts == 0); new = (refl, tt) })
 

@@ -7,7 +7,7 @@ use Rattle.std.proofs.lemmas.Bool.Decides.{nat_tests}
 use Rattle.sds_outside.specs.declared.keeping.Edit.{Edit}
 use Rattle.sds_history.specs.history.Records.{Record}
 use Rattle.sds_imagelaws.specs.Edits.{puts_of}
-use Rattle.sds_imagelaws.specs.Images.{pairs}
+use Rattle.sds_image.specs.Pairs.{pairs}
 use Rattle.sds_imagelaws.proofs.Lookups.{body_at, told_append, told_by}
 use Rattle.sds_imagelaws.proofs.Tests.{differs, first_alone, first_of, first_on, not_below}
 

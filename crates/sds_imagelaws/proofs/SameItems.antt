@@ -7,7 +7,7 @@ use Rattle.std.proofs.lemmas.List.Elements.{recursion_from_All}
 use Rattle.std.proofs.lemmas.Option.{same_Some}
 use Rattle.sds_trade.proofs.Lists.{pairs_head, pairs_tail}
 use Rattle.sds_history.specs.history.Records.{Record}
-use Rattle.sds_imagelaws.specs.Images.{pairs}
+use Rattle.sds_image.specs.Pairs.{pairs}
 use Rattle.sds_imagelaws.proofs.Distinct.{Distinct, none_at, others}
 use Rattle.sds_imagelaws.proofs.Items.{part_at, part_is}
 use Rattle.sds_imagelaws.proofs.Lookups.{body_at}

@@ -12,7 +12,7 @@ use Rattle.sds_trade.proofs.TableLaws.{less_is}
 use Rattle.sds_history.specs.history.Image.{key_of_record, sorted_records}
 use Rattle.sds_history.specs.history.Orders.{is_before, with_item}
 use Rattle.sds_history.specs.history.Records.{Record}
-use Rattle.sds_imagelaws.specs.Images.{pairs}
+use Rattle.sds_image.specs.Pairs.{pairs}
 use Rattle.sds_imagelaws.proofs.Items.{Tells, part_at, part_put}
 use Rattle.sds_imagelaws.proofs.Lists.{each_of}
 use Rattle.sds_imagelaws.proofs.Lookups.{body_at}

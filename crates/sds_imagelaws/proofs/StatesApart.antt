@@ -26,7 +26,7 @@ use Rattle.sds_history.specs.history.SoundParts.{AreCounts}
 use Rattle.sds_history.specs.history.SoundStates.{IsSoundState}
 use Rattle.sds_history.specs.history.Writers.{writer_key}
 use Rattle.sds_imagelaws.specs.Apart.{ErrorsHaveBits, ImagesTellStatesApart}
-use Rattle.sds_imagelaws.specs.Images.{pairs}
+use Rattle.sds_image.specs.Pairs.{pairs}
 use Rattle.sds_imagelaws.proofs.ChangeRecords.{ChangeFits, same_change, same_row}
 use Rattle.sds_imagelaws.proofs.Distinct.{Distinct, ascending_distinct}
 use Rattle.sds_imagelaws.proofs.Images.{tables_fit}

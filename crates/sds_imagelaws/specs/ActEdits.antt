@@ -17,11 +17,12 @@ use Rattle.sds_history.specs.history.Records.{batch_record, count_record, lane_r
 use Rattle.sds_history.specs.history.RowRecords.{change_record}
 use Rattle.sds_history.specs.history.Runs.{captured_in}
 use Rattle.sds_history.specs.history.States.{state_after}
-use Rattle.sds_imagelaws.specs.Edits.{edits_of, put_of, puts_of, row_edits, made_steps}
+use Rattle.sds_records.specs.Parts.{put_edit}
+use Rattle.sds_imagelaws.specs.Edits.{edits_of, puts_of, row_edits, made_steps}
 
 -- the edit of the counters, which is an act's last
 abbrev pub count_edit : Config → State → Act → Edit
-count_edit config state act = put_of (count_record (state_after config state act).counts)
+count_edit config state act = put_edit (count_record (state_after config state act).counts)
 
 -- the changes that an act captures, and the edits of its rows and of these changes
 abbrev pub captured_by : Config → State → Act → List Change
@@ -46,7 +47,7 @@ EditsOfWrites = (config : Config) (state : State) (writer : List ℕ) (number : 
     (rows : List TxRow)
     → edits_of config state (Wrote writer number rows)
     ≡ run_edits config state (Wrote writer number rows)
-    ++ put_of (writer_record (kept_last config state writer number rows))
+    ++ put_edit (writer_record (kept_last config state writer number rows))
     ∷ (count_edit config state (Wrote writer number rows) ∷ [])
 
 -- LOAD: rows, changes, and the lane
@@ -63,7 +64,7 @@ abbrev pub EditsOfLoads : Type 0
 EditsOfLoads = (config : Config) (state : State) (channel : ℕ) (batch : Prepared)
     → edits_of config state (Loaded channel batch)
     ≡ run_edits config state (Loaded channel batch)
-    ++ put_of (lane_record config (loaded_lane config state channel batch))
+    ++ put_edit (lane_record config (loaded_lane config state channel batch))
     ∷ (count_edit config state (Loaded channel batch) ∷ [])
 
 -- an error: the lane that has it
@@ -71,7 +72,7 @@ abbrev pub EditsOfErrors : Type 0
 EditsOfErrors = (config : Config) (state : State) (from : List ℕ) (channel : ℕ)
     (error : LaneError)
     → edits_of config state (Erred from channel error)
-    ≡ put_of (lane_record config
+    ≡ put_edit (lane_record config
     (record (lane_of state.lanes from channel) { error = Some error }))
     ∷ (count_edit config state (Erred from channel error) ∷ [])
 

@@ -22,20 +22,15 @@ use Rattle.sds_history.specs.history.RowRecords.{change_record, row_record}
 use Rattle.sds_history.specs.history.Runs.{dones_of}
 use Rattle.sds_history.specs.history.States.{state_after}
 use Rattle.sds_history.specs.history.Writers.{writer_of}
+use Rattle.sds_records.specs.Parts.{drop_edit, put_edit}
 
--- the edits that put a record, that drop it, and that put records
-abbrev pub put_of : Record → Edit
-put_of kept = record { key = kept.key; body = Some kept.body }
-
-abbrev pub drop_of : Record → Edit
-drop_of kept = record { key = kept.key; body = None }
-
+-- the edits that put records
 abbrev pub puts_of : List Record → List Edit
-puts_of records = map put_of records
+puts_of records = map put_edit records
 
 -- PEERS: the one that joins
 abbrev pub peer_edits : Act → List Edit
-peer_edits (Joined kept) = put_of (peer_record kept) ∷ []
+peer_edits (Joined kept) = put_edit (peer_record kept) ∷ []
 peer_edits act = []
 
 -- OPENINGS, as they are after the act: the new one; those of a child, which are given to it; those
@@ -61,11 +56,11 @@ abbrev pub record_at : Config → ℕ → Row → Record
 record_at config table row = row_record config (record { table = table; row = row })
 
 abbrev pub drop_unless : Option Record → Record → List Edit
-drop_unless None old = drop_of old ∷ []
-drop_unless (Some new) old = if bytes_eq new.key old.key then [] else drop_of old ∷ []
+drop_unless None old = drop_edit old ∷ []
+drop_unless (Some new) old = if bytes_eq new.key old.key then [] else drop_edit old ∷ []
 
 abbrev pub put_if : Option Record → List Edit
-put_if new = option_map_or (λ (kept : Record). put_of kept ∷ []) new []
+put_if new = option_map_or (λ (kept : Record). put_edit kept ∷ []) new []
 
 abbrev pub exchange_edits : Option Record → Option Record → List Edit
 exchange_edits old new = option_map_or (drop_unless new) old [] ++ put_if new
@@ -116,9 +111,9 @@ batch_edits config before after act = []
 -- LANES: that of the batch that was loaded or that broke a rule
 abbrev pub lane_edits : Config → State → Act → List Edit
 lane_edits config after (Loaded channel batch) =
-    put_of (lane_record config (lane_of after.lanes batch.from channel)) ∷ []
+    put_edit (lane_record config (lane_of after.lanes batch.from channel)) ∷ []
 lane_edits config after (Erred from channel error) =
-    put_of (lane_record config (lane_of after.lanes from channel)) ∷ []
+    put_edit (lane_record config (lane_of after.lanes from channel)) ∷ []
 lane_edits config after act = []
 
 -- all of them, by the states before and after the act and the steps that it made
@@ -126,7 +121,7 @@ abbrev pub edits_between : Config → State → State → Act → List Done → 
 edits_between config before after act steps = peer_edits act ++ (opening_edits before act
     ++ (row_edits config steps ++ (change_edits config before after act
     ++ (writer_edits after act ++ (batch_edits config before after act
-    ++ (lane_edits config after act ++ put_of (count_record after.counts) ∷ []))))))
+    ++ (lane_edits config after act ++ put_edit (count_record after.counts) ∷ []))))))
 
 abbrev pub edits_of : Config → State → Act → List Edit
 edits_of config state act =

@@ -1,5 +1,5 @@
 -- Laws of images: an act's edits make the image of the state after it of the image before it.
-use Rattle.std.specs.Prelude.{◌≡◌, ◌<◌, List, [], ◌∷◌, length, map, Some, IfSome}
+use Rattle.std.specs.Prelude.{◌≡◌, ◌<◌, List, [], ◌∷◌, length, Some, IfSome}
 use Rattle.std.specs.List.{All}
 use Rattle.sds_outside.specs.Records as outside
 use Rattle.sds_value.specs.declared.row.Peer.{Peer}
@@ -12,19 +12,13 @@ use Rattle.sds_trade.specs.rules.Sound.{IsSound}
 use Rattle.sds_trade.specs.rules.Steps.{new_row, table_of}
 use Rattle.sds_history.specs.history.Acts.{Act, State}
 use Rattle.sds_history.specs.history.Image.{image_of}
-use Rattle.sds_history.specs.history.Records.{Record, me_record}
+use Rattle.sds_history.specs.history.Records.{me_record}
 use Rattle.sds_history.specs.history.SoundStates.{IsSoundState}
 use Rattle.sds_history.specs.history.States.{new_state, state_after}
+use Rattle.sds_image.specs.Pairs.{pairs}
 use Rattle.sds_nodelaws.specs.Asked.{IsAsked}
 use Rattle.sds_nodelaws.specs.Calls.{Call, act_of}
 use Rattle.sds_imagelaws.specs.Edits.{edits_of, made_steps}
-
--- records as a keeper tells them
-abbrev pub kept_pair : Record → outside.Record
-kept_pair kept = (kept.key, kept.body)
-
-abbrev pub pairs : List Record → List outside.Record
-pairs records = map kept_pair records
 
 -- a step is on a table that is there, and the row that it puts has values of that table's columns,
 -- as it has where it was read from texts of characters. Without that two rows that are apart may

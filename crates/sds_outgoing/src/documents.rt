@@ -1,5 +1,5 @@
 //! A batch as a document.
-ghost use Rattle.std.specs.Prelude.{◌≡◌, Some, IfOk, IsSome, option_map, option_copied};
+ghost use Rattle.std.specs.Prelude.{◌≡◌, Some, IfOk, IsSome, option_map};
 ghost use Rattle.std.specs.List.{All};
 ghost use Rattle.sds_history.specs.history.Documents as stated;
 ghost use Rattle.sds_history.specs.history.Lanes.{channel_name};

@@ -13,7 +13,8 @@ use sds_types::{Ack, OutBatch, Standing};
 /// What is known of one of these batches after acks of a peer.
 ///
 /// A batch that an ack says is loaded is acknowledged, and so are the earlier ones of its lane.
-/// That is final. Else the last error that was told of it counts, and else what was known before.
+/// That is final. Else an error that was told of it counts, of several the first, and else what was
+/// known before.
 pub fn standing_after(batches: &[OutBatch], from: &str, acks: &[Ack], batch: &OutBatch) -> Standing
     ensures { result
         ≡ stated.standing_of batches.now (Acked (chars from.now) acks.now ∷ []) batch.now }
@@ -41,7 +42,7 @@ fn is_loaded(batches: &[OutBatch], acks: &[Ack], batch: &OutBatch) -> bool
     acks.iter().any(|ack| is_ok_for(batches, batch, ack))
 }
 
-/// What is known of a batch by the errors that acks tell of it.
+/// What is known of a batch by the errors that acks tell of it, of which the first counts.
 fn last_error(acks: &[Ack], batch: &OutBatch) -> Standing
     ensures { result ≡ stated.last_error (filter (stated.is_error_of batch.now) acks.now)
         batch.now.standing }

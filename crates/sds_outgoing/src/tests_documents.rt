@@ -1,8 +1,7 @@
 //! Batches as documents.
-ghost use Rattle.std.specs.Prelude.{◌≡◌, None, IfOk, IsSome, List};
+ghost use Rattle.std.specs.Prelude.{None, IfOk, IsSome, List};
 ghost use Rattle.std.specs.List.{All};
 ghost use Rattle.sds_value.specs.declared.table.TableDef.{TableDef};
-ghost use Rattle.sds_image.specs.declared.state.State as kept;
 ghost use Rattle.sds_outgoing.specs.Batches.{HasFitRows, batch_of_number};
 
 use crate::doc;

@@ -88,8 +88,8 @@ fn child(alloc: Global, id: &str, group: &str) -> Result<KeptPeer, NoMemory> {
     })
 }
 
-/// The node `corp` of the group `hq` with the peers `s1` of `store` and `s2` of `hq`, and with these
-/// batches.
+/// The node `corp` of the group `hq` with the peers `s1` of `store` and `s2` of `hq`, and with
+/// these batches.
 pub(crate) fn node(alloc: Global, batches: Vec<OutBatch>) -> Result<State, NoMemory>
     ensures { IfOk result (λ state. state.batches ≡ batches.items) }
 {
@@ -137,8 +137,8 @@ pub(crate) fn batches(alloc: Global, given: &[Given]) -> Result<Vec<OutBatch>, N
     Ok(batches)
 }
 
-/// Acks by their batches, each with the row that broke the third rule, which is 0 where the batch is
-/// loaded.
+/// Acks by their batches, each with the row that broke the third rule, which is 0 where the batch
+/// is loaded.
 pub(crate) fn acks(alloc: Global, given: &[(u64, u32)]) -> Result<Vec<Ack>, NoMemory> {
     let mut acks = Vec::new(alloc);
     for (batch, row) in given {

@@ -1,5 +1,5 @@
-//! A node's state as its keeper has it: the records of its parts, and the edits that put and drop
-//! them.
+//! The records of the parts of a node's state: the edits that put and drop them, and the part that a
+//! record tells.
 #![tactic(auto)]
 
 mod edits;

@@ -13,7 +13,7 @@ ghost use Rattle.sds_records.specs.Told.{IsNarrow, IsWide};
 
 use sds_base::{NoMemory, Txt};
 use sds_types::Rule;
-use sds_value::{Field, is_name};
+use sds_value::Field;
 use std::alloc::Global;
 
 /// The number that a text writes in decimal digits, which may begin with zeros.

@@ -34,7 +34,8 @@ fn told_by(
 ) -> Result<Option<Told>, NoMemory>
     ensures values { IfOk result (λ found. IfSome found (HasValues config.now)) }
     ensures found { IsSound config.now → (told : Told) → IsHeld told
-        → is_formed config.now told ≡ true → HasValues config.now told → kind ∷ (47 ∷ rest.now) ≡ (record_of_told config.now told).key
+        → is_formed config.now told ≡ true → HasValues config.now told
+        → kind ∷ (47 ∷ rest.now) ≡ (record_of_told config.now told).key
         → fields.now ≡ fields_of_told config.now told → IfOk result (λ found. found ≡ Some told) }
 {
     match kind {
@@ -79,7 +80,8 @@ fn told_of(
 ) -> Result<Option<Told>, NoMemory>
     ensures values { IfOk result (λ found. IfSome found (HasValues config.now)) }
     ensures found { IsSound config.now → (told : Told) → IsHeld told
-        → is_formed config.now told ≡ true → HasValues config.now told → key.now ≡ (record_of_told config.now told).key
+        → is_formed config.now told ≡ true → HasValues config.now told
+        → key.now ≡ (record_of_told config.now told).key
         → fields.now ≡ fields_of_told config.now told → IfOk result (λ found. found ≡ Some told) }
 {
     match key {
@@ -200,8 +202,8 @@ fn confirmed(
 /// The part of a node's state that a record tells: the one whose record it is, or none where it is
 /// none's. A record is a part's only as `put_part` writes it; the tables, channels and groups that
 /// it names are the configuration's, nodes and writers are named by names, and each value is null
-/// or the printed text of one of its column's kind. Numbers have at most 64 bits (the forms of
-/// records are symds' own).
+/// or the printed text of one of its column's kind. Numbers have at most 64 bits. That no part is
+/// missed holds under a sound configuration (the forms of records are symds' own).
 pub fn read_record(
     alloc: Global,
     config: &Config,

@@ -1,9 +1,8 @@
 //! The parts that records tell, but rows and changes. Each reading finds the part that a record
 //! tells; whether the record is that part's is seen after it.
-ghost use Rattle.std.specs.Prelude.{◌≡◌, ◌<◌, ◌∷◌, ◌++◌, [], ℕ, Bool, List, Option, Some};
+ghost use Rattle.std.specs.Prelude.{◌≡◌, ◌<◌, ◌∷◌, [], ℕ, Bool, List, Option, Some};
 ghost use Rattle.std.specs.Prelude.{IfOk, IfSome, map, true};
 ghost use Rattle.std.specs.List.{All};
-ghost use Rattle.std.specs.Str.{encode_utf8_all};
 ghost use Rattle.sds_value.specs.Names.{is_name_text};
 ghost use Rattle.sds_value.specs.declared.row.Field.{Field};
 ghost use Rattle.sds_value.specs.declared.row.Field.TheVariants as field;
@@ -35,8 +34,7 @@ use crate::pieces::{
 };
 use sds_base::{List, NoMemory, Twin, Txt};
 use sds_types::{
-    ChannelDef, Config, Counts, KeptPeer, LaneError, LaneIn, Opening, OutBatch, Stage, Standing,
-    WriterLast,
+    Config, Counts, KeptPeer, LaneError, LaneIn, Opening, OutBatch, Stage, Standing, WriterLast,
 };
 use sds_value::{Field, Peer};
 use std::alloc::Global;

@@ -1,5 +1,5 @@
 //! What a node's peers and lanes decide of a batch that is to be loaded.
-ghost use Rattle.std.specs.Prelude.{◌≡◌, None, option_and_then, option_copied, unwrap_or};
+ghost use Rattle.std.specs.Prelude.{◌≡◌, None, option_copied, unwrap_or};
 ghost use Rattle.std.specs.Option.{option_map_or};
 ghost use Rattle.std.specs.Str.{chars};
 ghost use Rattle.sds_types.specs.declared.config.Config.{Config};
