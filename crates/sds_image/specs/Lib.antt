@@ -2,3 +2,5 @@
 pub mod Meaning
 pub mod Pairs
 pub mod Reading
+pub mod ReadStates
+pub mod PartsSeen

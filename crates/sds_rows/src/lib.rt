@@ -7,6 +7,7 @@ mod laws;
 mod printing;
 mod references;
 mod search;
+mod sorting;
 mod step_rules;
 mod tables;
 #[cfg(test)]
@@ -18,5 +19,7 @@ mod tests_shop;
 mod undo;
 
 pub use laws::steps_keep_tables;
+pub use sorting::{has_parents, put_row};
+pub use step_rules::has_null;
 pub use tables::Tables;
 pub use undo::{Done, Undo};

@@ -38,7 +38,7 @@ pub(crate) fn broken_rule(defs: &[TableDef], rows: &[TableRow], step: &RowStep) 
 }
 
 /// Whether a row has a null in a column that doesn't allow it.
-fn has_null(columns: &[ColumnDef], row: &Row) -> bool
+pub fn has_null(columns: &[ColumnDef], row: &Row) -> bool
     ensures { result ≡ judged.has_null columns.now row.now }
 {
     let values = row.0.inner().as_slice();

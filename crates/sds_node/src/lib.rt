@@ -1,0 +1,12 @@
+//! A node over a keeper: each call one act, and each act one commit.
+#![tactic(auto)]
+
+mod calls;
+mod failing;
+mod keeping;
+mod node;
+mod outgoing;
+mod settling;
+mod starting;
+
+pub use node::Node;

@@ -1,0 +1,11 @@
+pub mod Fitting
+pub mod Counts
+pub mod Fullness
+pub mod Written
+pub mod Loaded
+pub mod Endings
+pub mod NextWrites
+pub mod Numbered
+pub mod NextLoads
+pub mod Kept
+pub mod Exchanges
