@@ -2,7 +2,7 @@
 -- wanting, a commit that isn't known to stand, or its act.
 use Rattle.std.proofs.Common.{◌≡◌, ◌⊎◌, inl, inr, Bool, true, false, cond, List, Option, None, Some, refl, sym, ap, subst, ◌∙◌, true≢false}
 use Rattle.std.specs.Prelude.{Result, Ok, Err, OnOk, OnErr, IsErrAnd}
-use Rattle.sds_outside.specs.Records.{Record, told_edited}
+use Rattle.sds_outside.specs.Keepings.{FailsAs, Keeping, with_edits}
 use Rattle.sds_outside.specs.declared.keeping.Edit.{Edit}
 use Rattle.sds_types.specs.declared.ack.AckRefusal.{AckRefusal}
 use Rattle.sds_types.specs.declared.ack.AckRefusal.TheVariants as ack
@@ -168,33 +168,30 @@ within_its_end found counts some = on (is_past counts) refl some
     on true is some = absurd (true≢false (ap (λ (o : Option Counts). elim o [ None ↦ false | Some c ↦ true ]) some))
     on false is some = record { same = ap counts_in some; within = is }
 
--- ONE COMMIT: how it ends, by the lists and the records after it
-told_same : (a b : List Edit) (told : Option (List Record)) → a ≡ b → told_edited a told ≡ told_edited b told
-told_same a b told same = ap (λ (edits : List Edit). told_edited edits told) same
+-- ONE COMMIT: how it ends, by the lists and what is told after it
+told_same : (a b : List Edit) (told : Keeping) → a ≡ b → with_edits a told ≡ with_edits b told
+told_same a b told same = ap (λ (edits : List Edit). with_edits edits told) same
 
-pub committed : (config : Config) (before after : kept.State) (records later : Option (List Record)) (act : Act) (edits : List Edit)
-    (result : Result (Unit {0}) Uncommitted) → edits ≡ edits_of config (meaning_of before) act → Commits edits records later result
+pub committed : (config : Config) (before after : kept.State) (told later : Keeping) (act : Act) (edits : List Edit)
+    (result : Result (Unit {0}) Uncommitted) → edits ≡ edits_of config (meaning_of before) act → Commits edits told later result
     → OnOk result (meaning_of after ≡ state_after config (meaning_of before) act) → OnErr result (after ≡ before)
-    → EndsWith config (kept_with before records) (kept_with after later) act result
-committed config before after records later act edits (Ok done) are commits made same =
-    (made, commits ∙ told_same edits (edits_of config (meaning_of before) act) records are)
-committed config before after records later act edits (Err end.Failed) are commits made same = (ap meaning_of same, on commits)
-  where
-    on : (later ≡ records) ⊎ (later ≡ told_edited edits records) → (later ≡ records) ⊎ (later ≡ told_edited (edits_of config (meaning_of before) act) records)
-    on (inl is) = inl is
-    on (inr is) = inr (is ∙ told_same edits (edits_of config (meaning_of before) act) records are)
-committed config before after records later act edits (Err end.NoMemory) are commits made same =
-    ap (λ (s : kept.State). kept_with s later) same ∙ ap (λ (r : Option (List Record)). kept_with before r) commits
+    → EndsWith config (kept_with before told) (kept_with after later) act result
+committed config before after told later act edits (Ok done) are commits made same =
+    (made, commits.0 ∙ told_same edits (edits_of config (meaning_of before) act) told are, commits.1)
+committed config before after told later act edits (Err end.Failed) are commits made same =
+    (ap meaning_of same, subst (λ (e : List Edit). FailsAs told.fates e told later) are commits)
+committed config before after told later act edits (Err end.NoMemory) are commits made same =
+    ap (λ (s : kept.State). kept_with s later) same ∙ ap (λ (t : Keeping). kept_with before t) commits
 
 -- so where the error of the commit is passed on
-pub passed_on : (config : Config) (before after : kept.State) (records later : Option (List Record)) (act : Act) (edits : List Edit)
-    (e : Uncommitted) (result : Result (Unit {0}) Uncommitted) → edits ≡ edits_of config (meaning_of before) act → Commits edits records later (Err e)
-    → IsErrAnd result (λ y. y ≡ e) → after ≡ before → EndsWith config (kept_with before records) (kept_with after later) act result
-passed_on config before after records later act edits e result are commits is same =
-    subst (EndsWith config (kept_with before records) (kept_with after later) act) (sym (told_error result e is))
-    (committed config before after records later act edits (Err e) are commits tt same)
+pub passed_on : (config : Config) (before after : kept.State) (told later : Keeping) (act : Act) (edits : List Edit)
+    (e : Uncommitted) (result : Result (Unit {0}) Uncommitted) → edits ≡ edits_of config (meaning_of before) act → Commits edits told later (Err e)
+    → IsErrAnd result (λ y. y ≡ e) → after ≡ before → EndsWith config (kept_with before told) (kept_with after later) act result
+passed_on config before after told later act edits e result are commits is same =
+    subst (EndsWith config (kept_with before told) (kept_with after later) act) (sym (told_error result e is))
+    (committed config before after told later act edits (Err e) are commits tt same)
 
-pub act_made : (config : Config) (before after : kept.State) (records later : Option (List Record)) (act : Act) (edits : List Edit)
-    → edits ≡ edits_of config (meaning_of before) act → Commits edits records later (Ok tt) → meaning_of after ≡ state_after config (meaning_of before) act
-    → EndsWith config (kept_with before records) (kept_with after later) act (Ok tt)
-act_made config before after records later act edits are commits made = committed config before after records later act edits (Ok tt) are commits made tt
+pub act_made : (config : Config) (before after : kept.State) (told later : Keeping) (act : Act) (edits : List Edit)
+    → edits ≡ edits_of config (meaning_of before) act → Commits edits told later (Ok tt) → meaning_of after ≡ state_after config (meaning_of before) act
+    → EndsWith config (kept_with before told) (kept_with after later) act (Ok tt)
+act_made config before after told later act edits are commits made = committed config before after told later act edits (Ok tt) are commits made tt

@@ -41,8 +41,8 @@ pub fn take_acks<K: Keeper>(
 ) -> Result<u64, AckRefusal>
     requires state { Fits config.now state.old }
     requires open { K.is_open keeper.old }
-    ensures ends { Ends config.now (kept_with state.old (K.records keeper.old))
-        (kept_with state.new (K.records keeper.new))
+    ensures ends { Ends config.now (kept_with state.old (K.keeping keeper.old))
+        (kept_with state.new (K.keeping keeper.new))
         (acks_act config.now (meaning_of state.old) (chars from.now) acks.now) AckRefusal.Fault
         (acks_answer config.now (meaning_of state.old) (chars from.now) acks.now) result }
     ensures tables { state.new.tables ≡ state.old.tables }
@@ -98,8 +98,8 @@ fn restate_all<K: Keeper>(
     requires open { K.is_open keeper.old }
     ensures ends { (from : List ℕ) → (acks : List told.Ack)
         → changed.now ≡ restated_by state.old.batches from acks
-        → EndsWith config.now (kept_with state.old (K.records keeper.old))
-        (kept_with state.new (K.records keeper.new)) (Acked from acks) result }
+        → EndsWith config.now (kept_with state.old (K.keeping keeper.old))
+        (kept_with state.new (K.keeping keeper.new)) (Acked from acks) result }
     ensures tables { state.new.tables ≡ state.old.tables }
     ensures open { (result ≡ Err Uncommitted.Failed → ⊥) → K.is_open keeper.new }
     ensures lasts { Lasts (K.damage keeper.old) (K.damage keeper.new)

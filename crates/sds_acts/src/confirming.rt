@@ -32,8 +32,8 @@ pub fn confirm<K: Keeper>(
 ) -> Result<(), NodeFault>
     requires state { Fits config.now state.old }
     requires open { K.is_open keeper.old }
-    ensures ends { Ends config.now (kept_with state.old (K.records keeper.old))
-        (kept_with state.new (K.records keeper.new))
+    ensures ends { Ends config.now (kept_with state.old (K.keeping keeper.old))
+        (kept_with state.new (K.keeping keeper.new))
         (confirm_act config.now (meaning_of state.old) (chars peer.now)) (λ fault. fault)
         (confirm_answer config.now (meaning_of state.old) (chars peer.now)) result }
     ensures tables { state.new.tables ≡ state.old.tables }
@@ -62,8 +62,8 @@ fn close_for<K: Keeper>(
 ) -> Result<(), Uncommitted>
     requires counts { counts ≡ after_act state.old.counts }
     requires open { K.is_open keeper.old }
-    ensures ends { EndsWith config.now (kept_with state.old (K.records keeper.old))
-        (kept_with state.new (K.records keeper.new)) (Confirmed (chars peer.now)) result }
+    ensures ends { EndsWith config.now (kept_with state.old (K.keeping keeper.old))
+        (kept_with state.new (K.keeping keeper.new)) (Confirmed (chars peer.now)) result }
     ensures tables { state.new.tables ≡ state.old.tables }
     ensures open { (result ≡ Err Uncommitted.Failed → ⊥) → K.is_open keeper.new }
     ensures lasts { Lasts (K.damage keeper.old) (K.damage keeper.new)

@@ -42,8 +42,8 @@ pub fn open<K: Keeper>(
 ) -> Result<(), RegRefusal>
     requires state { Fits config.now state.old }
     requires open { K.is_open keeper.old }
-    ensures ends { Ends config.now (kept_with state.old (K.records keeper.old))
-        (kept_with state.new (K.records keeper.new))
+    ensures ends { Ends config.now (kept_with state.old (K.keeping keeper.old))
+        (kept_with state.new (K.keeping keeper.new))
         (open_act config.now (meaning_of state.old) (chars group.now) (chars external.now) noise)
         RegRefusal.Fault
         (open_answer config.now (meaning_of state.old) (chars group.now) (chars external.now) noise)
@@ -77,8 +77,8 @@ fn open_one<K: Keeper>(
     requires order { AscendBy opening_key state.old.openings }
     requires counts { counts ≡ after_act state.old.counts }
     requires open { K.is_open keeper.old }
-    ensures ends { EndsWith config.now (kept_with state.old (K.records keeper.old))
-        (kept_with state.new (K.records keeper.new))
+    ensures ends { EndsWith config.now (kept_with state.old (K.keeping keeper.old))
+        (kept_with state.new (K.keeping keeper.new))
         (Opened (chars group.now) (chars external.now) (token_of noise.now)) result }
     ensures tables { state.new.tables ≡ state.old.tables }
     ensures open { (result ≡ Err Uncommitted.Failed → ⊥) → K.is_open keeper.new }
@@ -104,7 +104,7 @@ fn keep_opening<K: Keeper>(
 ) -> Result<(), Uncommitted>
     requires order { AscendBy opening_key openings.old.items }
     requires open { K.is_open keeper.old }
-    ensures records { Commits edits.now (K.records keeper.old) (K.records keeper.new) result }
+    ensures told { Commits edits.now (K.keeping keeper.old) (K.keeping keeper.new) result }
     ensures ok { OnOk result
         (openings.new.items ≡ with_item opening_key opening openings.old.items) }
     ensures err { OnErr result (openings.new.items ≡ openings.old.items) }

@@ -43,8 +43,8 @@ pub fn register<K: Keeper>(
 ) -> Result<Txt, RegRefusal>
     requires state { Fits config.now state.old }
     requires open { K.is_open keeper.old }
-    ensures ends { Ends config.now (kept_with state.old (K.records keeper.old))
-        (kept_with state.new (K.records keeper.new))
+    ensures ends { Ends config.now (kept_with state.old (K.keeping keeper.old))
+        (kept_with state.new (K.keeping keeper.new))
         (register_act config.now (meaning_of state.old) asks.now) RegRefusal.Fault
         (register_answer config.now (meaning_of state.old) asks.now) result }
     ensures tables { state.new.tables ≡ state.old.tables }
@@ -88,8 +88,8 @@ pub fn join<K: Keeper>(
 ) -> Result<(), RegRefusal>
     requires state { Fits config.now state.old }
     requires open { K.is_open keeper.old }
-    ensures ends { Ends config.now (kept_with state.old (K.records keeper.old))
-        (kept_with state.new (K.records keeper.new))
+    ensures ends { Ends config.now (kept_with state.old (K.keeping keeper.old))
+        (kept_with state.new (K.keeping keeper.new))
         (join_act config.now (meaning_of state.old) other.now (chars token.now)) RegRefusal.Fault
         (join_answer config.now (meaning_of state.old) other.now (chars token.now)) result }
     ensures tables { state.new.tables ≡ state.old.tables }
@@ -143,8 +143,8 @@ fn keep<K: Keeper>(
         × (AscendBy opening_key state.old.openings) }
     requires counts { counts ≡ after_act state.old.counts }
     requires open { K.is_open keeper.old }
-    ensures ends { EndsWith config.now (kept_with state.old (K.records keeper.old))
-        (kept_with state.new (K.records keeper.new))
+    ensures ends { EndsWith config.now (kept_with state.old (K.keeping keeper.old))
+        (kept_with state.new (K.keeping keeper.new))
         (Joined (kept_with_token peer.now (chars token.now) child)) result }
     ensures tables { state.new.tables ≡ state.old.tables }
     ensures open { (result ≡ Err Uncommitted.Failed → ⊥) → K.is_open keeper.new }
@@ -170,7 +170,7 @@ fn keep_peer<K: Keeper>(
 ) -> Result<(), Uncommitted>
     requires order { AscendBy peer_key state.old.peers }
     requires open { K.is_open keeper.old }
-    ensures records { Commits edits.now (K.records keeper.old) (K.records keeper.new) result }
+    ensures told { Commits edits.now (K.keeping keeper.old) (K.keeping keeper.new) result }
     ensures ok { OnOk result
         (state.new ≡ record state.old { peers = with_item peer_key kept state.old.peers }) }
     ensures err { OnErr result (state.new ≡ state.old) }
@@ -193,7 +193,7 @@ fn put_kept<K: Keeper>(
 ) -> Result<(), Uncommitted>
     requires order { AscendBy peer_key peers.old.items }
     requires open { K.is_open keeper.old }
-    ensures records { Commits edits.now (K.records keeper.old) (K.records keeper.new) result }
+    ensures told { Commits edits.now (K.keeping keeper.old) (K.keeping keeper.new) result }
     ensures ok { OnOk result (peers.new.items ≡ with_item peer_key kept peers.old.items) }
     ensures err { OnErr result (peers.new.items ≡ peers.old.items) }
     ensures open { (result ≡ Err Uncommitted.Failed → ⊥) → K.is_open keeper.new }

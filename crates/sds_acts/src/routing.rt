@@ -36,8 +36,8 @@ pub fn route<K: Keeper>(
     requires config { IsSound config.now }
     requires state { Fits config.now state.old }
     requires open { K.is_open keeper.old }
-    ensures ends { Ends config.now (kept_with state.old (K.records keeper.old))
-        (kept_with state.new (K.records keeper.new))
+    ensures ends { Ends config.now (kept_with state.old (K.keeping keeper.old))
+        (kept_with state.new (K.keeping keeper.new))
         (route_act config.now (meaning_of state.old)) (λ fault. fault)
         (route_answer config.now (meaning_of state.old)) result }
     ensures tables { state.new.tables ≡ state.old.tables }
@@ -70,8 +70,8 @@ fn keep_batches<K: Keeper>(
         (state.old.counts.last_batch + 1) [] }
     requires counts { counts ≡ after_route state.old.counts (length made.items) }
     requires open { K.is_open keeper.old }
-    ensures ends { EndsWith config.now (kept_with state.old (K.records keeper.old))
-        (kept_with state.new (K.records keeper.new)) Routed result }
+    ensures ends { EndsWith config.now (kept_with state.old (K.keeping keeper.old))
+        (kept_with state.new (K.keeping keeper.new)) Routed result }
     ensures tables { state.new.tables ≡ state.old.tables }
     ensures open { (result ≡ Err Uncommitted.Failed → ⊥) → K.is_open keeper.new }
     ensures lasts { Lasts (K.damage keeper.old) (K.damage keeper.new)
@@ -94,7 +94,7 @@ fn append_batches<K: Keeper>(
     mut made: Vec<OutBatch>,
 ) -> Result<(), Uncommitted>
     requires open { K.is_open keeper.old }
-    ensures records { Commits edits.now (K.records keeper.old) (K.records keeper.new) result }
+    ensures told { Commits edits.now (K.keeping keeper.old) (K.keeping keeper.new) result }
     ensures ok { OnOk result (batches.new.items ≡ batches.old.items ++ made.items) }
     ensures err { OnErr result (batches.new.items ≡ batches.old.items) }
     ensures open { (result ≡ Err Uncommitted.Failed → ⊥) → K.is_open keeper.new }

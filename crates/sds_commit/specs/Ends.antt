@@ -1,7 +1,7 @@
 -- How a call of a node ends that makes at most one act, and that by one commit.
-use Rattle.std.specs.Prelude.{◌≡◌, ◌⊎◌, ◌≤◌, ℕ, List, Option, None, Some, Result, Err}
+use Rattle.std.specs.Prelude.{◌≡◌, ◌≤◌, ℕ, Option, None, Some, Result, Err}
 use Rattle.sds_outside.specs.Causes.{Rose}
-use Rattle.sds_outside.specs.Records.{Record, told_edited}
+use Rattle.sds_outside.specs.Keepings.{FailsAs, Keeping, NoneFails, with_edits}
 use Rattle.sds_types.specs.declared.config.Config.{Config}
 use Rattle.sds_types.specs.declared.node_fault.NodeFault.{NodeFault}
 use Rattle.sds_types.specs.declared.node_fault.NodeFault.TheVariants.{Keeper, NoMemory}
@@ -11,38 +11,41 @@ use Rattle.sds_history.specs.history.States.{state_after}
 use Rattle.sds_image.specs.Meaning.{meaning_of}
 use Rattle.sds_image.specs.declared.state.State as kept
 use Rattle.sds_imagelaws.specs.Edits.{edits_of}
+use Rattle.sds_imagelaws.specs.Reading.{AreHeld}
 
--- what a node has, and what its keeper tells of the records
+-- what a node has, and what its keeper tells
 pub record Kept : Type 0 where
   pub state : State
-  pub records : Option (List Record)
+  pub told : Keeping
 
-abbrev pub kept_with : kept.State → Option (List Record) → Kept
-kept_with state records = record { state = meaning_of state; records = records }
+abbrev pub kept_with : kept.State → Keeping → Kept
+kept_with state told = record { state = meaning_of state; told = told }
 
--- a node's lists are a sound state, and its tables are those of the configuration
+-- a node's lists are a sound state whose numbers have their widths, and its tables are those of the
+-- configuration
 pub record Fits (config : Config) (state : kept.State) : Type 0 where
   pub sound : IsSoundState config (meaning_of state)
+  pub held : AreHeld (meaning_of state)
   pub tables : state.tables.defs ≡ config.tables
 
--- the records with the edits of an act
-abbrev pub records_with : Config → Kept → Act → Option (List Record)
-records_with config before act = told_edited (edits_of config before.state act) before.records
+-- what is told with the edits of an act
+abbrev pub told_with : Config → Kept → Act → Keeping
+told_with config before act = with_edits (edits_of config before.state act) before.told
 
--- an act is made: the node has what it has after it, and the records have its edits, by one commit.
--- Without an act nothing changes
+-- an act is made: the node has what it has after it, and the records have its edits, by one commit,
+-- which wasn't told to fail. Without an act nothing changes
 abbrev pub Makes : Config → Kept → Kept → Option Act → Type 0
 Makes config before after None = after ≡ before
 Makes config before after (Some act) =
     (after.state ≡ state_after config before.state act)
-    × (after.records ≡ records_with config before act)
+    × (after.told ≡ told_with config before act) × NoneFails before.told.fates
 
--- the keeper failed as an act was committed: the node has what it had, and the records are those
--- before or those with the act's edits. Without an act no keeper is asked
+-- the keeper failed as an act was committed: the node has what it had, and the records are as was
+-- told, or else those before or those with the act's edits. Without an act no keeper is asked
 abbrev pub Fails : Config → Kept → Kept → Option Act → Type 0
 Fails config before after None = ⊥
 Fails config before after (Some act) = (after.state ≡ before.state)
-    × ((after.records ≡ before.records) ⊎ (after.records ≡ records_with config before act))
+    × FailsAs before.told.fates (edits_of config before.state act) before.told after.told
 
 -- a result says that the keeper failed, or that memory was wanting. How a call says a fault is its
 -- own. Any other result is the call's answer

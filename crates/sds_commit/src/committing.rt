@@ -86,7 +86,7 @@ impl From<Uncommitted> for WriteRefusal {
 /// Commits the edits of an act, all at once.
 pub fn commit<K: Keeper>(keeper: &mut K, edits: &[Edit]) -> Result<(), Uncommitted>
     requires { K.is_open keeper.old }
-    ensures records { Commits edits.now (K.records keeper.old) (K.records keeper.new) result }
+    ensures told { Commits edits.now (K.keeping keeper.old) (K.keeping keeper.new) result }
     ensures open { (result ≡ Err Uncommitted.Failed → ⊥) → K.is_open keeper.new }
     ensures lasts { Lasts (K.damage keeper.old) (K.damage keeper.new)
         (K.faults keeper.old) (K.faults keeper.new) (result ≡ Err Uncommitted.Failed) }

@@ -39,7 +39,7 @@ same_count config group tx other source (done ∷ dones) =
     on None xs ys same = same
     on (Some channel) xs ys same = ap (λ n. suc n) same
 
-numbered_count : (first : ℕ) (changes : List Change) → length (map numbered_change (enumerate_from first changes)) ≡ length changes
+pub numbered_count : (first : ℕ) (changes : List Change) → length (map numbered_change (enumerate_from first changes)) ≡ length changes
 numbered_count first changes = length-map (enumerate_from first changes) numbered_change ∙ length-enumerate_from first changes
 
 captured_count : (config : Config) (state : State) (first tx : ℕ) (run : Run)

@@ -40,7 +40,7 @@ use Rattle.sds_history.specs.history.SoundParts.{AreCounts, AscendBy, IsChange, 
 use Rattle.sds_history.specs.history.SoundStates.{IsSoundState, ListsAscend, acks_ascend, are_apart, is_counted_batch, is_counted_change, is_counted_writer, is_kept, is_sound_lane, stage_stands, unrouted_numbers}
 use Rattle.sds_history.specs.history.States.{zero_counts}
 use Rattle.sds_history.specs.history.Writers.{writer_key}
-use Rattle.sds_records.specs.Told.{names_node, names_source, record_of_told, sides_stand}
+use Rattle.sds_records.specs.Told.{IsHeldBatch, IsHeldLane, IsHeldWriter, names_node, names_source, record_of_told, sides_stand}
 use Rattle.sds_records.specs.declared.told.Told.{Told}
 use Rattle.sds_records.specs.declared.told.Told.TheVariants.{Change}
 use Rattle.sds_nodelaws.proofs.CallActs.{first_false}
@@ -49,7 +49,7 @@ use Rattle.sds_nodelaws.proofs.KeyedLists.{pairs_nil}
 use Rattle.sds_nodelaws.proofs.Lists.{and_left, and_right, from_lt, from_not_le, from_not_lt, second_false, slice_all, unmap_all}
 use Rattle.sds_nodelaws.proofs.TableRuns.{all_with, each_fails, new_held, with_row_length}
 use Rattle.sds_image.specs.Reading.{AreTold, IsTold, counts_disagree, counts_of_part, first_disagreement, first_told, me_of_part, row_of_part, side_has_null, sorted_rows, state_told, state_with}
-use Rattle.sds_imagelaws.specs.Reading.{AgreeingRecordsAreImages}
+use Rattle.sds_imagelaws.specs.Reading.{AgreeingRecordsAreImages, AreHeld}
 use Rattle.sds_imagelaws.proofs.Agreement.{Agrees, agreeing_hold, one_more_all, one_more_pair}
 use Rattle.sds_imagelaws.proofs.Gathered.{told_image}
 use Rattle.sds_imagelaws.proofs.KeyOrders.{before_after, id_order}
@@ -336,6 +336,13 @@ module _ (config : Config) (sound : IsSound config) (records : List Record) (par
         (λ before x agrees. not_false (is_sound_lane config state x) agrees));
   }
 
+  held : AreHeld state
+  held = record {
+    writers = of_told WriterLast (writer_kind config) IsHeldWriter (λ x is. is.held);
+    batches = of_told OutBatch (batch_kind config) IsHeldBatch (λ x is. is.held);
+    lanes = of_told LaneIn (lane_kind config) IsHeldLane (λ x is. is.held);
+  }
+
   image_is : image_of config state ≡ records
   image_is = told_image config sound parts rows_fit counts_stand me me_is records told.records_are told.ascend
 
@@ -357,5 +364,8 @@ agreeing_records_are_images config records parts state sound told is none =
     let has = has_me config parts state is in
     let none_so : first_disagreement config (state_with config parts has.me) parts ≡ None = subst (λ s. first_disagreement config s parts ≡ None) (sym has.state_is) none in (
       subst (IsSoundState config) has.state_is (sound_state config sound records parts told has.me has.first none_so),
-      subst (λ s. image_of config s ≡ records) has.state_is (image_is config sound records parts told has.me has.first none_so),
+      (
+        subst AreHeld has.state_is (held config sound records parts told has.me has.first none_so),
+        subst (λ s. image_of config s ≡ records) has.state_is (image_is config sound records parts told has.me has.first none_so),
+      ),
     )

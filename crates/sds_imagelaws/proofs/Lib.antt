@@ -30,3 +30,5 @@ pub mod Walks
 pub mod PartOrders
 pub mod ImageParts
 pub mod GoodRecords
+pub mod Widths
+pub mod ReadImages

@@ -71,7 +71,7 @@ same_me a b are also same =
     λ i. record { id = id i; group = group i; external = external i }
 
 -- THE COUNTERS
-abbrev count_numbers : Counts → List ℕ
+abbrev pub count_numbers : Counts → List ℕ
 count_numbers counts = counts.acts ∷ (counts.last_change ∷ (counts.last_batch ∷ (counts.last_tx ∷ (counts.routed ∷ []))))
 
 small_count : (n : ℕ) → n ≤ most_count → Small n
@@ -104,10 +104,14 @@ one_counts a b is =
     let routed : a.routed ≡ b.routed = ap (number_at 4) is in
     λ i. record { acts = acts i; last_change = last_change i; last_batch = last_batch i; last_tx = last_tx i; routed = routed i }
 
+pub small_counts : (a b : Counts) → AllByRecursion Small (count_numbers a) → AllByRecursion Small (count_numbers b)
+    → (count_record a).body ≡ (count_record b).body → a ≡ b
+small_counts a b small also same =
+    one_counts a b (all_numbers (count_numbers a) (count_numbers b) small also
+    (line_tells _ _ _ _ (numbers_good (count_numbers a) small) (numbers_good (count_numbers b) also) same))
+
 pub same_counts : (a b : Counts) → AreCounts a → AreCounts b → (count_record a).body ≡ (count_record b).body → a ≡ b
-same_counts a b are also same =
-    one_counts a b (all_numbers (count_numbers a) (count_numbers b) (counts_small a are) (counts_small b also)
-    (line_tells _ _ _ _ (numbers_good (count_numbers a) (counts_small a are)) (numbers_good (count_numbers b) (counts_small b also)) same))
+same_counts a b are also same = small_counts a b (counts_small a are) (counts_small b also) same
 
 -- counters of no act are all 0
 pub no_acts : (a b : Counts) → AreCounts a → AreCounts b → a.acts ≡ 0 → b.acts ≡ 0 → a ≡ b

@@ -49,7 +49,7 @@ some_by P Q (Some y) by is = by y is
 less_is : (a b : ℕ) → nat_lt a b ≡ true → a < b
 less_is a b is = grind (arith, nat_tests)
 
-small_by : (n most : ℕ) → most ≤ 2 ^ 62 → nat_le n most ≡ true → Small n
+pub small_by : (n most : ℕ) → most ≤ 2 ^ 62 → nat_le n most ≡ true → Small n
 small_by n most few is = let low : n ≤ most = grind (arith, nat_tests) in omega (arith, low, few)
 
 module _ (config : Config) (sound : IsSound config) (state : State) (are : IsSoundState config state) where
@@ -84,7 +84,7 @@ module _ (config : Config) (sound : IsSound config) (state : State) (are : IsSou
       (recursion_from_All (λ (o : Opening). IsTrue (stage_stands state o.stage)) state.openings are.stages)
 
   -- WRITERS
-  writer_fits : (last : WriterLast) → is_counted_writer state.counts last ≡ true → WriterFits last
+  pub writer_fits : (last : WriterLast) → is_counted_writer state.counts last ≡ true → WriterFits last
   writer_fits last is =
       let rest = right_true (is_name_text last.writer) (nat_le last.number state.counts.acts && nat_le (last.first + last.count) (state.counts.last_change + 1)) is in
       let number = left_true (nat_le last.number state.counts.acts) (nat_le (last.first + last.count) (state.counts.last_change + 1)) rest in
@@ -144,7 +144,7 @@ module _ (config : Config) (sound : IsSound config) (state : State) (are : IsSou
       on true same found rest = subst Small (eqb-true c.id number same) fit.0.id
       on false other found rest = rest found
 
-  kept_small : (number : ℕ) → is_kept state number ≡ true → Small number
+  pub kept_small : (number : ℕ) → is_kept state number ≡ true → Small number
   kept_small number is = kept_by number state.changes changes_fit is
 
   standing_fits : (s : Standing) → is_standing s ≡ true → StandingHasBits s → StandingFits s

@@ -4,3 +4,4 @@ pub mod Images
 pub mod Apart
 pub mod ActEdits
 pub mod Reading
+pub mod Widths

@@ -4,8 +4,9 @@ ghost use Rattle.sds_imagelaws.specs.ActEdits.{EditsOfRoutes, EditsOfWrites};
 ghost use Rattle.sds_imagelaws.specs.Apart.{ImagesTellStatesApart};
 ghost use Rattle.sds_imagelaws.specs.Images.{AskedCallsMakeImages, EditsMakeImages};
 ghost use Rattle.sds_imagelaws.specs.Images.{NewNodesHaveOneRecord};
-ghost use Rattle.sds_imagelaws.specs.Reading.{AgreeingRecordsAreImages, ImagesAreTold};
-ghost use Rattle.sds_imagelaws.specs.Reading.{ToldRecordsAreGood};
+ghost use Rattle.sds_imagelaws.specs.Reading.{AgreeingRecordsAreImages, ImagesAreRead};
+ghost use Rattle.sds_imagelaws.specs.Reading.{ImagesAreTold, ToldRecordsAreGood};
+ghost use Rattle.sds_imagelaws.specs.Widths.{ActsKeepWidths};
 
 /// Where the records of a sound state are kept and the edits of an act are committed that leaves a
 /// sound state, the records of the state that it leaves are kept. Its steps put rows whose values
@@ -38,7 +39,7 @@ pub fn images_tell_states_apart()
 
 /// Records whose keys ascend and each of which tells a part, where one tells the node itself and no
 /// part disagrees with the configuration or with those before it, are the records of the state that
-/// they tell; and that state is sound.
+/// they tell; and that state is sound, and its numbers have the widths that they are kept in.
 pub fn agreeing_records_are_images()
     ensures image { AgreeingRecordsAreImages }
 {}
@@ -48,6 +49,20 @@ pub fn agreeing_records_are_images()
 /// has is read without a refusal, and the node goes on with what it had.
 pub fn images_are_told()
     ensures told { ImagesAreTold }
+{}
+
+/// So the records of a sound state whose numbers have the widths that they are kept in are read as
+/// a state: they are refused only where memory runs out.
+pub fn images_are_read()
+    ensures read { ImagesAreRead }
+{}
+
+/// The numbers of a node stay within the widths that they are kept in: where a sound state has them
+/// and a call is asked rightly, whose batch or acks name rows by 32 bits, the state after its act
+/// has them too. A write captures no more changes than it has rows, an error has the row of an ack
+/// or of a batch, and all other numbers are counted, to 2^62 at most.
+pub fn acts_keep_widths()
+    ensures keep { ActsKeepWidths }
 {}
 
 /// Of records whose keys ascend and each of which tells a part none is bad, so of the records of a

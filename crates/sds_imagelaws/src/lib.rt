@@ -5,6 +5,7 @@
 mod laws;
 
 pub use laws::{
-    agreeing_records_are_images, asked_calls_make_images, edits_go_by_act, edits_make_images,
-    images_are_told, images_tell_states_apart, new_nodes_have_one_record, told_records_are_good,
+    acts_keep_widths, agreeing_records_are_images, asked_calls_make_images, edits_go_by_act,
+    edits_make_images, images_are_read, images_are_told, images_tell_states_apart,
+    new_nodes_have_one_record, told_records_are_good,
 };

@@ -1,7 +1,7 @@
 -- A call that was settled ends by what the settled node has, and leaves a node.
 use Rattle.std.proofs.Common.{◌≡◌, ◌↔◌, Bool, true, false, not, Option, None, Some, List, ℕ, inl, inr, true≢false, refl, sym, ap, subst, ◌∙◌}
 use Rattle.std.specs.Prelude.{IfSome, IsTrue, Result, Ok, Err}
-use Rattle.sds_outside.specs.Records.{Record}
+use Rattle.sds_outside.specs.Keepings.{Keeping}
 use Rattle.sds_types.specs.declared.config.Config.{Config}
 use Rattle.sds_types.specs.declared.node_fault.NodeFault.{NodeFault}
 use Rattle.sds_history.specs.history.Acts.{Act, State}
@@ -11,12 +11,13 @@ use Rattle.sds_image.specs.Pairs.{pairs}
 use Rattle.sds_image.specs.declared.state.State as kept
 use Rattle.sds_nodelaws.specs.Asked.{IsAsked}
 use Rattle.sds_nodelaws.specs.Calls.{Call, act_of}
+use Rattle.sds_imagelaws.specs.Widths.{IsHeldCall}
 use Rattle.sds_commit.specs.Ends.{Ends, Fails, HasFailed, Kept, Makes, kept_with}
 use Rattle.sds_node.specs.Going.{EndsFrom, Goes, IsStill, Settled, Settles}
 use Rattle.sds_node.specs.Meaning.{IsNode, has, kept_by}
 use Rattle.sds_node.specs.declared.node.Node.{Node}
 use Rattle.sds_node.proofs.Endings.{Ended}
-use Rattle.sds_node.proofs.Standing.{sound_after, told_after}
+use Rattle.sds_node.proofs.Standing.{held_after, sound_after, told_after}
 
 -- who a node is stays
 made_me : (config : Config) (before after : Kept) (act : Option Act) → Makes config before after act → after.state.me ≡ before.state.me
@@ -34,38 +35,39 @@ me_after config before after act as_fault answer result (inr (inl lacks)) ends =
 me_after config before after act as_fault answer result (inr (inr answered)) ends = made_me config before after act (ends.answered answered).1
 
 -- a node that wasn't settled
-pub goes_unsettled : {K A E : Type 0} (records : K → Option (List Record)) (damage : K → Option (Option ℕ)) (before after : Node K)
+pub goes_unsettled : {K A E : Type 0} (keeping : K → Keeping) (damage : K → Option (Option ℕ)) (before after : Node K)
     (result : Result (Unit {0}) NodeFault) (found : NodeFault) (act : State → Option Act) (as_fault : NodeFault → E) (answer : State → Result A E)
-    → Settles records damage before after result → result ≡ Err found → Goes records damage before after act as_fault answer (Err (as_fault found))
-goes_unsettled records damage before after result found act as_fault answer settles is =
+    → Settles keeping damage before after result → result ≡ Err found → Goes keeping damage before after act as_fault answer (Err (as_fault found))
+goes_unsettled keeping damage before after result found act as_fault answer settles is =
     inr (record { found = found; result_is = refl; unsettled = settles.failed found is })
 
 -- a node that was, and then was asked a call
-module _ {K A E : Type 0} (is_open : K → Type 0) (records : K → Option (List Record)) (damage : K → Option (Option ℕ))
-    (before middle : Node K) (settled : Result (Unit {0}) NodeFault) (settles : Settles records damage before middle settled) (well : settled ≡ Ok tt)
-    (node : IsNode is_open records middle) (call : Call) (as_fault : NodeFault → E) (answer : Config → State → Result A E) (result : Result A E)
+module _ {K A E : Type 0} (is_open : K → Type 0) (keeping : K → Keeping) (damage : K → Option (Option ℕ))
+    (before middle : Node K) (settled : Result (Unit {0}) NodeFault) (settles : Settles keeping damage before middle settled) (well : settled ≡ Ok tt)
+    (node : IsNode is_open keeping middle) (call : Call) (as_fault : NodeFault → E) (answer : Config → State → Result A E) (result : Result A E)
     (state : kept.State) (keeper : K) (failed : Bool) (ended : Ended as_fault result)
-    (ends : Ends middle.config (kept_by records middle) (kept_with state (records keeper)) (act_of middle.config (has middle) call) as_fault
+    (ends : Ends middle.config (kept_by keeping middle) (kept_with state (keeping keeper)) (act_of middle.config (has middle) call) as_fault
     (answer middle.config (has middle)) result) where
   after : Node K
   after = record middle { state = state; keeper = keeper; sure = not failed }
 
-  settled_is : Settled records before (has middle)
+  settled_is : Settled keeping before (has middle)
   settled_is = record {
     same = λ sure. ap (λ (kept : Kept). kept.state) (settles.quiet sure).1;
     sound = subst (λ config. IsSoundState config (has middle)) settles.still.config node.fits.sound;
+    held = node.fits.held;
     me = settles.still.me;
-    told = subst (λ config. IfSome (records before.keeper) (λ told. told ≡ pairs (image_of config (has middle)))) settles.still.config
-        (subst (λ told. IfSome told (λ told. told ≡ pairs (image_of middle.config (has middle)))) settles.kept (node.told (settles.settled well)));
+    told = subst (λ config. IfSome (keeping before.keeper).records (λ told. told ≡ pairs (image_of config (has middle)))) settles.still.config
+        (subst (λ (kept : Keeping). IfSome kept.records (λ told. told ≡ pairs (image_of middle.config (has middle)))) settles.kept (node.told (settles.settled well)));
   }
 
   pub goes_settled : (IsTrue failed ↔ HasFailed as_fault result)
-      → Goes records damage before (record middle { state = state; keeper = keeper; sure = not failed }) (λ now. act_of before.config now call) as_fault (answer before.config) result
+      → Goes keeping damage before (record middle { state = state; keeper = keeper; sure = not failed }) (λ now. act_of before.config now call) as_fault (answer before.config) result
   goes_settled is = inl (record {
     state = has middle;
     settled = settled_is;
-    ends = subst (λ told. Ends before.config (record { state = has middle; records = told }) (kept_with state (records keeper)) (act_of before.config (has middle) call) as_fault (answer before.config (has middle)) result) settles.kept
-        (subst (λ config. Ends config (kept_by records middle) (kept_with state (records keeper)) (act_of config (has middle) call) as_fault (answer config (has middle)) result) settles.still.config ends);
+    ends = subst (λ told. Ends before.config (record { state = has middle; told = told }) (kept_with state (keeping keeper)) (act_of before.config (has middle) call) as_fault (answer before.config (has middle)) result) settles.kept
+        (subst (λ config. Ends config (kept_by keeping middle) (kept_with state (keeping keeper)) (act_of config (has middle) call) as_fault (answer config (has middle)) result) settles.still.config ends);
     sure = λ well_ended. sure_by failed (λ yes_failed. well_ended (is.0 yes_failed));
   })
     where
@@ -76,23 +78,25 @@ module _ {K A E : Type 0} (is_open : K → Type 0) (records : K → Option (List
   pub still_settled : IsStill before (record middle { state = state; keeper = keeper; sure = not failed })
   still_settled = record {
     config = settles.still.config;
-    me = me_after middle.config (kept_by records middle) (kept_with state (records keeper)) (act_of middle.config (has middle) call) as_fault
+    me = me_after middle.config (kept_by keeping middle) (kept_with state (keeping keeper)) (act_of middle.config (has middle) call) as_fault
         (answer middle.config (has middle)) result ended ends ∙ settles.still.me;
   }
 
-  pub node_settled : (IsTrue failed ↔ HasFailed as_fault result) → IsAsked before.config (has middle) call → state.tables.defs ≡ middle.state.tables.defs
-      → ((HasFailed as_fault result → ⊥) → is_open keeper) → IsNode is_open records (record middle { state = state; keeper = keeper; sure = not failed })
-  node_settled is asked tables opens =
+  pub node_settled : (IsTrue failed ↔ HasFailed as_fault result) → IsAsked before.config (has middle) call → IsHeldCall call → state.tables.defs ≡ middle.state.tables.defs
+      → ((HasFailed as_fault result → ⊥) → is_open keeper) → IsNode is_open keeping (record middle { state = state; keeper = keeper; sure = not failed })
+  node_settled is asked few tables opens =
       let rightly : IsAsked middle.config (has middle) call = subst (λ config. IsAsked config (has middle) call) (sym settles.still.config) asked in
       record {
         config = node.config;
         fits = record {
-          sound = sound_after middle.config call (kept_by records middle) (kept_with state (records keeper)) as_fault (answer middle.config (has middle)) result
+          sound = sound_after middle.config call (kept_by keeping middle) (kept_with state (keeping keeper)) as_fault (answer middle.config (has middle)) result
               node.config node.fits.sound rightly ended ends;
+          held = held_after middle.config call (kept_by keeping middle) (kept_with state (keeping keeper)) as_fault (answer middle.config (has middle)) result
+              node.config node.fits.sound node.fits.held rightly few ended ends;
           tables = tables ∙ node.fits.tables;
         };
         opened = λ sure. opens (isnt failed sure is.1);
-        told = λ sure. told_after middle.config call (kept_by records middle) (kept_with state (records keeper)) as_fault (answer middle.config (has middle)) result
+        told = λ sure. told_after middle.config call (kept_by keeping middle) (kept_with state (keeping keeper)) as_fault (answer middle.config (has middle)) result
             node.config node.fits.sound rightly ended (isnt failed sure is.1) (node.told (settles.settled well)) ends;
       }
     where

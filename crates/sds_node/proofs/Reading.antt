@@ -1,6 +1,7 @@
 -- Records that a keeper tells, read one after another, and what they are read as.
 use Rattle.std.proofs.Common.{◌≡◌, ◌∷◌, ◌++◌, ◌⊎◌, [], inl, inr, List, ℕ, Option, None, Some, Result, Ok, Err, refl, sym, ap, subst, map, append_assoc, append-nil, ◌∙◌}
 use Rattle.std.specs.Prelude.{IfSome}
+use Rattle.sds_outside.specs.Keepings.{Keeping}
 use Rattle.sds_outside.specs.Records.{Gives, Record}
 use Rattle.sds_types.specs.declared.config.Config.{Config}
 use Rattle.sds_types.specs.declared.node_fault.NodeFault.{NodeFault}
@@ -52,20 +53,24 @@ pairs_back [] = refl
 pairs_back (kept ∷ records) = ap (λ rest. kept ∷ rest) (pairs_back records)
 
 -- why records couldn't be read that a keeper has
-pub cause_told : (config : Config) (records : Option (List Record)) (damage : Option (Option ℕ)) (all : List Record) (found : NodeFault)
-    → ((told : List Record) → records ≡ Some told → told ≡ all) → IsUnread config all found → IsCause (AreUnread config) records damage found
-cause_told config records damage all Keeper same unread = tt
-cause_told config records damage all (BadKept key) same unread =
-    if_told (AreUnread config key) records (λ told is. subst (AreUnread config key) (sym (same told is)) unread)
-cause_told config records damage all (Damaged at) same unread = absurd unread
-cause_told config records damage all Counters same unread = absurd unread
-cause_told config records damage all NoMemory same unread = tt
+pub cause_told : (config : Config) (kept : Keeping) (damage : Option (Option ℕ)) (all : List Record) (found : NodeFault)
+    → ((told : List Record) → kept.records ≡ Some told → told ≡ all) → IsUnread config all found → IsCause (AreUnread config) kept damage found
+cause_told config kept damage all Keeper same unread = absurd unread
+cause_told config kept damage all (BadKept key) same unread =
+    if_told (AreUnread config key) kept.records (λ told is. subst (AreUnread config key) (sym (same told is)) unread)
+cause_told config kept damage all (Damaged at) same unread = absurd unread
+cause_told config kept damage all Counters same unread = absurd unread
+cause_told config kept damage all NoMemory same unread = tt
 
-pub cause_own : (config : Config) (me : Peer) (records : Option (List Record)) (damage : Option (Option ℕ)) (found : NodeFault)
-    → IsCause (AreUnread config) records damage found → IsCause (AreBad config me) records damage found
-cause_own config me records damage Keeper cause = tt
-cause_own config me None damage (BadKept key) cause = tt
-cause_own config me (Some told) damage (BadKept key) cause = inl cause
-cause_own config me records damage (Damaged at) cause = cause
-cause_own config me records damage Counters cause = cause
-cause_own config me records damage NoMemory cause = tt
+bad_own : (config : Config) (me : Peer) (records : Option (List Record)) (key : List ℕ) → IfSome records (AreUnread config key)
+    → IfSome records (AreBad config me key)
+bad_own config me None key cause = tt
+bad_own config me (Some told) key cause = inl cause
+
+pub cause_own : (config : Config) (me : Peer) (kept : Keeping) (damage : Option (Option ℕ)) (found : NodeFault)
+    → IsCause (AreUnread config) kept damage found → IsCause (AreBad config me) kept damage found
+cause_own config me kept damage Keeper cause = cause
+cause_own config me kept damage (BadKept key) cause = bad_own config me kept.records key cause
+cause_own config me kept damage (Damaged at) cause = cause
+cause_own config me kept damage Counters cause = cause
+cause_own config me kept damage NoMemory cause = tt

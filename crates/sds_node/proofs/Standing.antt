@@ -1,6 +1,7 @@
 -- What a node has after a call is sound, and the records that are told are its image.
 use Rattle.std.proofs.Common.{◌≡◌, ◌⊎◌, inl, inr, Option, None, Some, List, refl, sym, ap, subst, ◌∙◌}
 use Rattle.std.specs.Prelude.{IfSome, Result}
+use Rattle.sds_outside.specs.Keepings.{Keeping}
 use Rattle.sds_outside.specs.Records as outside
 use Rattle.sds_outside.specs.declared.keeping.Edit.{Edit}
 use Rattle.sds_types.specs.declared.config.Config.{Config}
@@ -15,12 +16,15 @@ use Rattle.sds_nodelaws.specs.Asked.{IsAsked}
 use Rattle.sds_nodelaws.specs.Calls.{Call, act_of}
 use Rattle.sds_nodelaws.proofs.SoundActs.{calls_keep_states_sound}
 use Rattle.sds_imagelaws.specs.Edits.{edits_of}
+use Rattle.sds_imagelaws.specs.Reading.{AreHeld}
+use Rattle.sds_imagelaws.specs.Widths.{IsHeldCall}
 use Rattle.sds_imagelaws.proofs.AskedImages.{asked_calls_make_images}
-use Rattle.sds_commit.specs.Ends.{Ends, Fails, HasFailed, Kept, Makes, records_with}
+use Rattle.sds_imagelaws.proofs.Widths.{acts_keep_widths}
+use Rattle.sds_commit.specs.Ends.{Ends, Fails, HasFailed, Kept, Makes, told_with}
 use Rattle.sds_node.proofs.Endings.{Ended}
 
 abbrev pub Told : Config → Kept → Type 0
-Told config kept = IfSome kept.records (λ told. told ≡ pairs (image_of config kept.state))
+Told config kept = IfSome kept.told.records (λ told. told ≡ pairs (image_of config kept.state))
 
 -- what a call leaves is sound
 made_sound : (config : Config) (call : Call) (before after : Kept) (act : Option Act) → IsSound config → IsSoundState config before.state
@@ -44,6 +48,27 @@ sound_after config call before after as_fault answer result all sound asked (inr
 sound_after config call before after as_fault answer result all sound asked (inr (inr answered)) ends =
     made_sound config call before after (act_of config before.state call) all sound asked refl (ends.answered answered).1
 
+-- and its numbers have their widths
+made_held : (config : Config) (call : Call) (before after : Kept) (act : Option Act) → IsSound config → IsSoundState config before.state → AreHeld before.state
+    → IsAsked config before.state call → IsHeldCall call → act_of config before.state call ≡ act → Makes config before after act → AreHeld after.state
+made_held config call before after None all sound held asked few is made = subst (λ (kept : Kept). AreHeld kept.state) (sym made) held
+made_held config call before after (Some act) all sound held asked few is made =
+    subst AreHeld (sym made.0) (acts_keep_widths config before.state call act all sound held asked few is)
+
+failed_held : (config : Config) (before after : Kept) (act : Option Act) → AreHeld before.state → Fails config before after act → AreHeld after.state
+failed_held config before after None held failed = absurd failed
+failed_held config before after (Some act) held failed = subst AreHeld (sym failed.0) held
+
+pub held_after : {A E : Type 0} (config : Config) (call : Call) (before after : Kept) (as_fault : NodeFault → E) (answer result : Result A E)
+    → IsSound config → IsSoundState config before.state → AreHeld before.state → IsAsked config before.state call → IsHeldCall call → Ended as_fault result
+    → Ends config before after (act_of config before.state call) as_fault answer result → AreHeld after.state
+held_after config call before after as_fault answer result all sound held asked few (inl failed) ends =
+    failed_held config before after (act_of config before.state call) held (ends.failed failed)
+held_after config call before after as_fault answer result all sound held asked few (inr (inl lacks)) ends =
+    subst (λ (kept : Kept). AreHeld kept.state) (sym (ends.no_memory lacks)) held
+held_after config call before after as_fault answer result all sound held asked few (inr (inr answered)) ends =
+    made_held config call before after (act_of config before.state call) all sound held asked few refl (ends.answered answered).1
+
 -- and the records that are told are its image, where the keeper didn't fail
 told_edit : (records : Option (List outside.Record)) (edits : List Edit) (image next : List outside.Record) → IfSome records (λ told. told ≡ image)
     → outside.edited edits image ≡ next → IfSome (outside.told_edited edits records) (λ told. told ≡ next)
@@ -55,11 +80,11 @@ made_told : (config : Config) (call : Call) (before after : Kept) (act : Option 
 made_told config call before after None all sound asked is told made = subst (Told config) (sym made) told
 made_told config call before after (Some act) all sound asked is told made =
     let leads = asked_calls_make_images config before.state call act all sound asked is in
-    let next : IfSome (records_with config before act) (λ told. told ≡ pairs (image_of config (state_after config before.state act))) =
-    told_edit before.records (edits_of config before.state act) _ _ told leads in
-    let records : IfSome after.records (λ told. told ≡ pairs (image_of config (state_after config before.state act))) =
-    subst (λ records. IfSome records (λ told. told ≡ pairs (image_of config (state_after config before.state act)))) (sym made.1) next in
-    subst (λ state. IfSome after.records (λ told. told ≡ pairs (image_of config state))) (sym made.0) records
+    let next : IfSome (told_with config before act).records (λ told. told ≡ pairs (image_of config (state_after config before.state act))) =
+    told_edit before.told.records (edits_of config before.state act) _ _ told leads in
+    let records : IfSome after.told.records (λ told. told ≡ pairs (image_of config (state_after config before.state act))) =
+    subst (λ (kept : Keeping). IfSome kept.records (λ told. told ≡ pairs (image_of config (state_after config before.state act)))) (sym made.1) next in
+    subst (λ state. IfSome after.told.records (λ told. told ≡ pairs (image_of config state))) (sym made.0) records
 
 pub told_after : {A E : Type 0} (config : Config) (call : Call) (before after : Kept) (as_fault : NodeFault → E) (answer result : Result A E)
     → IsSound config → IsSoundState config before.state → IsAsked config before.state call → Ended as_fault result → (HasFailed as_fault result → ⊥)

@@ -1,7 +1,9 @@
 -- How a node begins, and how it is opened.
 use Rattle.std.specs.Prelude.{◌≡◌, ◌⊎◌, ◌∷◌, [], Bool, true, false, List, Option, IfSome, Result, Ok, Err, ℕ}
-use Rattle.sds_outside.specs.Records.{Record, told_edited}
+use Rattle.sds_outside.specs.Keepings.{FailsAs, Keeping, MayFail, NoneFails, with_edits}
+use Rattle.sds_outside.specs.Records.{Record}
 use Rattle.sds_value.specs.declared.row.Peer.{Peer}
+use Rattle.sds_outside.specs.declared.keeping.Edit.{Edit}
 use Rattle.sds_types.specs.declared.config.Config.{Config}
 use Rattle.sds_types.specs.declared.node_fault.NodeFault.{NodeFault}
 use Rattle.sds_types.specs.declared.node_fault.NodeFault.TheVariants.{Keeper}
@@ -34,6 +36,10 @@ abbrev pub Stands : List Record → Bool → Type 0
 Stands records true = records ≡ [] → ⊥
 Stands records false = records ≡ []
 
+-- the edit that puts the record of a node
+abbrev pub own_edit : Peer → List Edit
+own_edit me = put_edit (me_record me) ∷ []
+
 -- a node is sure, and is a new one
 pub record IsCreated {K : Type 0} (config : Config) (me : Peer) (node : Node K) : Type 0 where
   pub config_is : node.config ≡ config
@@ -44,21 +50,22 @@ pub record IsCreated {K : Type 0} (config : Config) (me : Peer) (node : Node K) 
 abbrev pub NoneIsBad : List ℕ → List Record → Type 0
 NoneIsBad key records = ⊥
 
--- the records after a refusal are those before; after a fault of the keeper the node's own may stand
-abbrev pub MayStand : Peer → Option (List Record) → Option (List Record) → NodeFault → Type 0
-MayStand me before after Keeper = (after ≡ before)
-    ⊎ (after ≡ told_edited (put_edit (me_record me) ∷ []) before)
-MayStand me before after other = after ≡ before
+-- what is told after a fault is what was told before. Where the keeper failed it was asked for its
+-- records, or the commit of the node's own failed
+abbrev pub IsFault : Peer → Keeping → Option (Option ℕ) → Keeping → NodeFault → Type 0
+IsFault me before damage after Keeper = (MayFail before.fates × (after ≡ before))
+    ⊎ FailsAs before.fates (own_edit me) before after
+IsFault me before damage after other = IsCause NoneIsBad before damage other × (after ≡ before)
 
 -- why a node isn't created
-abbrev pub IsRefusal : Config → Peer → Option (List Record) → Option (Option ℕ)
-    → Option (List Record) → CreateRefusal → Type 0
-IsRefusal config me records damage after NotEmpty =
-    IfSome records (λ told. told ≡ [] → ⊥) × (after ≡ records)
-IsRefusal config me records damage after UnknownGroup = IfSome records (λ told. told ≡ [])
-    × ((is_among config.groups me.group ≡ false) × (after ≡ records))
-IsRefusal config me records damage after (Fault found) =
-    IsCause NoneIsBad records damage found × MayStand me records after found
+abbrev pub IsRefusal : Config → Peer → Keeping → Option (Option ℕ) → Keeping → CreateRefusal
+    → Type 0
+IsRefusal config me told damage after NotEmpty =
+    IfSome told.records (λ records. records ≡ [] → ⊥) × (after ≡ told)
+IsRefusal config me told damage after UnknownGroup =
+    IfSome told.records (λ records. records ≡ [])
+    × ((is_among config.groups me.group ≡ false) × (after ≡ told))
+IsRefusal config me told damage after (Fault found) = IsFault me told damage after found
 
 -- the keeper of a node, or the one that is given back
 abbrev pub keeper_after : {K E : Type 0} → Result (Node K) (E × K) → K

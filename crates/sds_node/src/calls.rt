@@ -1,5 +1,6 @@
 //! The calls of a node that make acts: each settles the node, and then makes at most one act.
 ghost use Rattle.std.specs.Prelude.{◌<◌, ◌^◌, length};
+ghost use Rattle.std.specs.List.{All};
 ghost use Rattle.std.specs.Str.{chars};
 ghost use Rattle.sds_history.specs.history.Acks.{acks_act, acks_answer};
 ghost use Rattle.sds_history.specs.history.Joins.{join_act, join_answer};
@@ -11,6 +12,7 @@ ghost use Rattle.sds_history.specs.history.Routes.{route_act, route_answer};
 ghost use Rattle.sds_history.specs.history.Writes.{write_act, write_answer};
 ghost use Rattle.sds_nodelaws.specs.Asked.{IsAsked};
 ghost use Rattle.sds_nodelaws.specs.Calls.Call.{Confirm, Join, Load, Open, Register, Route, TakeAcks, Write};
+ghost use Rattle.sds_imagelaws.specs.Widths.{IsHeldAck, IsHeldBody};
 ghost use Rattle.sds_load.specs.Bodies.{rows_in};
 ghost use Rattle.sds_commit.specs.Ends.{HasFailed, Lasts};
 ghost use Rattle.sds_node.specs.Going.{Goes, IsStill};
@@ -42,10 +44,10 @@ impl<K: Keeper> Node<K> {
         external: &str,
         noise: [u8; 16],
     ) -> Result<(), RegRefusal>
-        requires node { IsNode K.is_open K.records self.old }
+        requires node { IsNode K.is_open K.keeping self.old }
         requires asked { IsAsked self.old.config (has self.old) (Open (chars group.now) (chars external.now) noise) }
-        ensures node { IsNode K.is_open K.records self.new }
-        ensures goes { Goes K.records K.damage self.old self.new
+        ensures node { IsNode K.is_open K.keeping self.new }
+        ensures goes { Goes K.keeping K.damage self.old self.new
             (λ state. open_act self.old.config state (chars group.now) (chars external.now) noise) RegRefusal.Fault
             (λ state. open_answer self.old.config state (chars group.now) (chars external.now) noise) result }
         ensures still { IsStill self.old self.new }
@@ -75,10 +77,10 @@ impl<K: Keeper> Node<K> {
     /// Refusals, in this order: the pair isn't open, or no longer; the id is taken; 1,000 peers are
     /// kept.
     pub fn register(&mut self, asks: &Peer) -> Result<Txt, RegRefusal>
-        requires node { IsNode K.is_open K.records self.old }
+        requires node { IsNode K.is_open K.keeping self.old }
         requires asked { IsAsked self.old.config (has self.old) (Register asks.now) }
-        ensures node { IsNode K.is_open K.records self.new }
-        ensures goes { Goes K.records K.damage self.old self.new
+        ensures node { IsNode K.is_open K.keeping self.new }
+        ensures goes { Goes K.keeping K.damage self.old self.new
             (λ state. register_act self.old.config state asks.now) RegRefusal.Fault
             (λ state. register_answer self.old.config state asks.now) result }
         ensures still { IsStill self.old self.new }
@@ -105,10 +107,10 @@ impl<K: Keeper> Node<K> {
     /// Refusals, in this order: no link joins the two groups; the id is taken, by this node or by a
     /// peer with other values; 1,000 peers are kept.
     pub fn join(&mut self, other: &Peer, token: &str) -> Result<(), RegRefusal>
-        requires node { IsNode K.is_open K.records self.old }
+        requires node { IsNode K.is_open K.keeping self.old }
         requires asked { IsAsked self.old.config (has self.old) (Join other.now (chars token.now)) }
-        ensures node { IsNode K.is_open K.records self.new }
-        ensures goes { Goes K.records K.damage self.old self.new
+        ensures node { IsNode K.is_open K.keeping self.new }
+        ensures goes { Goes K.keeping K.damage self.old self.new
             (λ state. join_act self.old.config state other.now (chars token.now)) RegRefusal.Fault
             (λ state. join_answer self.old.config state other.now (chars token.now)) result }
         ensures still { IsStill self.old self.new }
@@ -134,10 +136,10 @@ impl<K: Keeper> Node<K> {
     /// Closes the registration of a peer, which has shown its token. Where none is open nothing is
     /// done.
     pub fn confirm(&mut self, peer: &str) -> Result<(), NodeFault>
-        requires node { IsNode K.is_open K.records self.old }
+        requires node { IsNode K.is_open K.keeping self.old }
         requires asked { IsAsked self.old.config (has self.old) (Confirm (chars peer.now)) }
-        ensures node { IsNode K.is_open K.records self.new }
-        ensures goes { Goes K.records K.damage self.old self.new
+        ensures node { IsNode K.is_open K.keeping self.new }
+        ensures goes { Goes K.keeping K.damage self.old self.new
             (λ state. confirm_act self.old.config state (chars peer.now)) (λ fault. fault)
             (λ state. confirm_answer self.old.config state (chars peer.now)) result }
         ensures still { IsStill self.old self.new }
@@ -171,10 +173,10 @@ impl<K: Keeper> Node<K> {
         number: u64,
         tx: &[TxRow],
     ) -> Result<Written, WriteRefusal>
-        requires node { IsNode K.is_open K.records self.old }
+        requires node { IsNode K.is_open K.keeping self.old }
         requires asked { IsAsked self.old.config (has self.old) (Write (chars writer.now) number tx.now) }
-        ensures node { IsNode K.is_open K.records self.new }
-        ensures goes { Goes K.records K.damage self.old self.new
+        ensures node { IsNode K.is_open K.keeping self.new }
+        ensures goes { Goes K.keeping K.damage self.old self.new
             (λ state. write_act self.old.config state (chars writer.now) number tx.now) WriteRefusal.Fault
             (λ state. write_answer self.old.config state (chars writer.now) number tx.now) result }
         ensures still { IsStill self.old self.new }
@@ -202,10 +204,10 @@ impl<K: Keeper> Node<K> {
     /// and tells how many it made (the SymmetricDS guide's chapter on routers). Without such changes
     /// nothing is done.
     pub fn route(&mut self) -> Result<u64, NodeFault>
-        requires node { IsNode K.is_open K.records self.old }
+        requires node { IsNode K.is_open K.keeping self.old }
         requires asked { IsAsked self.old.config (has self.old) Route }
-        ensures node { IsNode K.is_open K.records self.new }
-        ensures goes { Goes K.records K.damage self.old self.new
+        ensures node { IsNode K.is_open K.keeping self.new }
+        ensures goes { Goes K.keeping K.damage self.old self.new
             (λ state. route_act self.old.config state) (λ fault. fault)
             (λ state. route_answer self.old.config state) result }
         ensures still { IsStill self.old self.new }
@@ -227,11 +229,12 @@ impl<K: Keeper> Node<K> {
     ///
     /// Refused where the node has no such peer, or has it in another group than the batch says.
     pub fn load(&mut self, from: &str, batch: &Prepared) -> Result<LoadAnswer, PeerRefusal>
-        requires node { IsNode K.is_open K.records self.old }
+        requires node { IsNode K.is_open K.keeping self.old }
         requires asked { IsAsked self.old.config (has self.old) (Load (chars from.now) batch.now) }
         requires few { length (rows_in batch.now.body) < 2 ^ 32 }
-        ensures node { IsNode K.is_open K.records self.new }
-        ensures goes { Goes K.records K.damage self.old self.new
+        requires held { IsHeldBody batch.now.body }
+        ensures node { IsNode K.is_open K.keeping self.new }
+        ensures goes { Goes K.keeping K.damage self.old self.new
             (λ state. load_act self.old.config state (chars from.now) batch.now) PeerRefusal.Fault
             (λ state. load_answer self.old.config state (chars from.now) batch.now) result }
         ensures still { IsStill self.old self.new }
@@ -260,10 +263,11 @@ impl<K: Keeper> Node<K> {
     /// Refusals, in this order: no such peer; the first number that is no batch to it, and then
     /// nothing is done.
     pub fn take_acks(&mut self, from: &str, acks: &[Ack]) -> Result<u64, AckRefusal>
-        requires node { IsNode K.is_open K.records self.old }
+        requires node { IsNode K.is_open K.keeping self.old }
         requires asked { IsAsked self.old.config (has self.old) (TakeAcks (chars from.now) acks.now) }
-        ensures node { IsNode K.is_open K.records self.new }
-        ensures goes { Goes K.records K.damage self.old self.new
+        requires held { All IsHeldAck acks.now }
+        ensures node { IsNode K.is_open K.keeping self.new }
+        ensures goes { Goes K.keeping K.damage self.old self.new
             (λ state. acks_act self.old.config state (chars from.now) acks.now) AckRefusal.Fault
             (λ state. acks_answer self.old.config state (chars from.now) acks.now) result }
         ensures still { IsStill self.old self.new }

@@ -1,5 +1,6 @@
 //! The records that a keeper has, read whole.
 ghost use Rattle.std.specs.Prelude.{◌≡◌, ℕ, List, Err, Some, IfOk, IfSome, OnOk};
+ghost use Rattle.sds_outside.specs.Keepings.{MayFail};
 ghost use Rattle.sds_outside.specs.Records.{Record};
 ghost use Rattle.sds_commit.specs.Ends.{Lasts};
 ghost use Rattle.sds_node.specs.Faults.{fault_of_fail};
@@ -15,9 +16,10 @@ pub(crate) fn kept_records<K: Keeper>(
     keeper: &mut K,
 ) -> Result<List<(Bytes, Bytes)>, KeepFail>
     ensures all { IfOk result (λ all. (told : List Record)
-        → K.records keeper.old ≡ Some told → told ≡ all) }
+        → (K.keeping keeper.old).records ≡ Some told → told ≡ all) }
     ensures open { OnOk result (K.is_open keeper.new) }
-    ensures records { K.records keeper.new ≡ K.records keeper.old }
+    ensures told { K.keeping keeper.new ≡ K.keeping keeper.old }
+    ensures failed { result ≡ Err KeepFail.Failed → MayFail (K.keeping keeper.old).fates }
     ensures damaged { (at : ℕ) → result ≡ Err (KeepFail.Damaged at)
         → IfSome (K.damage keeper.old) (λ found. found ≡ Some at) }
     ensures lasts { Lasts (K.damage keeper.old) (K.damage keeper.new)
@@ -33,7 +35,8 @@ fn rest_of<K: Keeper>(alloc: Global, keeper: &mut K) -> Result<List<(Bytes, Byte
     ensures all { IfOk result (λ all. (told : List Record)
         → K.unread keeper.old ≡ Some told → told ≡ all) }
     ensures open { OnOk result (K.is_open keeper.new) }
-    ensures records { K.records keeper.new ≡ K.records keeper.old }
+    ensures told { K.keeping keeper.new ≡ K.keeping keeper.old }
+    ensures failed { result ≡ Err KeepFail.Failed → MayFail (K.keeping keeper.old).fates }
     ensures not_damaged { (at : ℕ) → result ≡ Err (KeepFail.Damaged at) → ⊥ }
     ensures lasts { Lasts (K.damage keeper.old) (K.damage keeper.new)
         (K.faults keeper.old) (K.faults keeper.new) (result ≡ Err KeepFail.Failed) }

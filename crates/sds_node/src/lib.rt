@@ -7,6 +7,7 @@ mod keeping;
 mod node;
 mod outgoing;
 mod settling;
+mod showing;
 mod starting;
 
 pub use node::Node;

@@ -35,7 +35,7 @@ impl<K: Keeper> Node<K> {
 
     /// A batch of the node as a document: its rows by the transforms of its way. The node is sure.
     pub fn doc(&self, batch: u64) -> Result<BatchDoc, NoMemory>
-        requires node { IsNode K.is_open K.records self.now }
+        requires node { IsNode K.is_open K.keeping self.now }
         requires sure { self.now.sure ≡ true }
         requires known { IsSome (batch_of_number (has self.now).batches batch) }
         ensures { IfOk result (λ doc. Some doc

@@ -25,9 +25,9 @@ impl<K: Keeper> Node<K> {
     /// Refusals: the keeper fails or is damaged, or its records tell no state, or that of another
     /// node. Then the node goes on not being sure.
     pub fn settle(&mut self) -> Result<(), NodeFault>
-        requires { IsNode K.is_open K.records self.old }
-        ensures node { IsNode K.is_open K.records self.new }
-        ensures settles { Settles K.records K.damage self.old self.new result }
+        requires { IsNode K.is_open K.keeping self.old }
+        ensures node { IsNode K.is_open K.keeping self.new }
+        ensures settles { Settles K.keeping K.damage self.old self.new result }
         ensures lasts { Lasts (K.damage self.old.keeper) (K.damage self.new.keeper)
             (K.faults self.old.keeper) (K.faults self.new.keeper)
             (result ≡ Err NodeFault.Keeper) }
@@ -52,12 +52,12 @@ fn read_own<K: Keeper>(
     keeper: &mut K,
 ) -> Result<State, NodeFault>
     requires { IsSound config.now }
-    ensures read { IfOk result (λ state. IsReadFrom config.now (K.records keeper.old) state
+    ensures read { IfOk result (λ state. IsReadFrom config.now (K.keeping keeper.old).records state
         × ((meaning_of state).me ≡ me.now)) }
     ensures open { OnOk result (K.is_open keeper.new) }
     ensures cause { (found : fault.NodeFault) → result ≡ Err found → IsCause
-        (AreBad config.now me.now) (K.records keeper.old) (K.damage keeper.old) found }
-    ensures records { K.records keeper.new ≡ K.records keeper.old }
+        (AreBad config.now me.now) (K.keeping keeper.old) (K.damage keeper.old) found }
+    ensures told { K.keeping keeper.new ≡ K.keeping keeper.old }
     ensures lasts { Lasts (K.damage keeper.old) (K.damage keeper.new)
         (K.faults keeper.old) (K.faults keeper.new) (result ≡ Err NodeFault.Keeper) }
 {
@@ -80,11 +80,11 @@ pub(crate) fn read_kept<K: Keeper>(
     keeper: &mut K,
 ) -> Result<State, NodeFault>
     requires { IsSound config.now }
-    ensures read { IfOk result (λ state. IsReadFrom config.now (K.records keeper.old) state) }
+    ensures read { IfOk result (λ state. IsReadFrom config.now (K.keeping keeper.old).records state) }
     ensures open { OnOk result (K.is_open keeper.new) }
     ensures cause { (found : fault.NodeFault) → result ≡ Err found → IsCause
-        (AreUnread config.now) (K.records keeper.old) (K.damage keeper.old) found }
-    ensures records { K.records keeper.new ≡ K.records keeper.old }
+        (AreUnread config.now) (K.keeping keeper.old) (K.damage keeper.old) found }
+    ensures told { K.keeping keeper.new ≡ K.keeping keeper.old }
     ensures lasts { Lasts (K.damage keeper.old) (K.damage keeper.new)
         (K.faults keeper.old) (K.faults keeper.new) (result ≡ Err NodeFault.Keeper) }
 {

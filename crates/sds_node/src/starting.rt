@@ -1,18 +1,17 @@
 //! Nodes that begin, and nodes that are opened again.
-ghost use Rattle.std.specs.Prelude.{◌≡◌, ◌∷◌, [], ℕ, true, Err, Some};
+ghost use Rattle.std.specs.Prelude.{◌≡◌, [], ℕ, true, Err, Ok, Some};
 ghost use Rattle.std.specs.Prelude.{IfErr, IfOk, IfSome, IsTrue, OnOk};
+ghost use Rattle.sds_outside.specs.Keepings.{MayFail};
 ghost use Rattle.sds_trade.specs.rules.Places.{is_among};
 ghost use Rattle.sds_trade.specs.rules.Sound.{IsSound};
-ghost use Rattle.sds_history.specs.history.Records.{me_record};
 ghost use Rattle.sds_history.specs.history.States.{new_state};
 ghost use Rattle.sds_image.specs.Meaning.{meaning_of};
 ghost use Rattle.sds_nodelaws.specs.Asked.{is_named_peer};
 ghost use Rattle.sds_types.specs.declared.registration.CreateRefusal as refused;
-ghost use Rattle.sds_records.specs.Parts.{put_edit};
 ghost use Rattle.sds_commit.specs.Commits.{Commits};
 ghost use Rattle.sds_commit.specs.Ends.{Lasts};
 ghost use Rattle.sds_node.specs.Going.{AreUnread, IsCause};
-ghost use Rattle.sds_node.specs.Starting.{HasBegun, IsRefusal, Stands, done_of};
+ghost use Rattle.sds_node.specs.Starting.{HasBegun, IsRefusal, Stands, done_of, own_edit};
 
 use crate::Node;
 use crate::keeping::fault_of;
@@ -43,11 +42,12 @@ impl<K: Keeper> Node<K> {
     ) -> Result<Node<K>, (CreateRefusal, K)>
         requires sound { IsSound config }
         requires names { IsTrue (is_named_peer me) }
-        ensures created { IfOk result (λ node. IsNode K.is_open K.records node
+        ensures created { IfOk result (λ node. IsNode K.is_open K.keeping node
             × IsCreated config me node) }
-        ensures records { IfOk result (λ node. IfSome (K.records keeper) (λ told. told ≡ [])) }
-        ensures refused { IfErr result (λ refused. IsRefusal config me (K.records keeper)
-            (K.damage keeper) (K.records refused.1) refused.0) }
+        ensures told { IfOk result (λ node. IfSome (K.keeping keeper).records (λ told. told ≡ [])
+            × Commits (own_edit me) (K.keeping keeper) (K.keeping node.keeper) (Ok tt)) }
+        ensures refused { IfErr result (λ refused. IsRefusal config me (K.keeping keeper)
+            (K.damage keeper) (K.keeping refused.1) refused.0) }
         ensures lasts { Lasts (K.damage keeper) (K.damage (keeper_after result))
             (K.faults keeper) (K.faults (keeper_after result)) (HasFailedAtCreate result) }
     {
@@ -69,10 +69,10 @@ impl<K: Keeper> Node<K> {
     /// key, which is empty where the node's own record is missing.
     pub fn open(alloc: Global, config: Config, mut keeper: K) -> Result<Node<K>, (NodeFault, K)>
         requires sound { IsSound config }
-        ensures opened { IfOk result (λ node. IsNode K.is_open K.records node
+        ensures opened { IfOk result (λ node. IsNode K.is_open K.keeping node
             × ((node.sure ≡ true) × (node.config ≡ config))) }
-        ensures records { K.records (keeper_after result) ≡ K.records keeper }
-        ensures cause { IfErr result (λ refused. IsCause (AreUnread config) (K.records keeper)
+        ensures told { K.keeping (keeper_after result) ≡ K.keeping keeper }
+        ensures cause { IfErr result (λ refused. IsCause (AreUnread config) (K.keeping keeper)
             (K.damage keeper) refused.0) }
         ensures lasts { Lasts (K.damage keeper) (K.damage (keeper_after result))
             (K.faults keeper) (K.faults (keeper_after result)) (HasFailedAtOpen result) }
@@ -99,12 +99,14 @@ fn begin<K: Keeper>(
 ) -> Result<State, CreateRefusal>
     requires sound { IsSound config.now }
     requires names { IsTrue (is_named_peer me) }
-    ensures begun { IfOk result (λ state. HasBegun config.now me (K.records keeper.new) state) }
-    ensures empty { OnOk result (IfSome (K.records keeper.old) (λ told. told ≡ [])) }
+    ensures begun { IfOk result (λ state. HasBegun config.now me (K.keeping keeper.new).records state) }
+    ensures empty { OnOk result (IfSome (K.keeping keeper.old).records (λ told. told ≡ [])) }
+    ensures told { OnOk result (Commits (own_edit me) (K.keeping keeper.old)
+        (K.keeping keeper.new) (Ok tt)) }
     ensures open { OnOk result (K.is_open keeper.new) }
     ensures refused { (refusal : refused.CreateRefusal) → result ≡ Err refusal
-        → IsRefusal config.now me (K.records keeper.old) (K.damage keeper.old)
-        (K.records keeper.new) refusal }
+        → IsRefusal config.now me (K.keeping keeper.old) (K.damage keeper.old)
+        (K.keeping keeper.new) refusal }
     ensures lasts { Lasts (K.damage keeper.old) (K.damage keeper.new)
         (K.faults keeper.old) (K.faults keeper.new)
         (result ≡ Err (CreateRefusal.Fault NodeFault.Keeper)) }
@@ -125,12 +127,13 @@ fn begin<K: Keeper>(
 
 /// Whether a keeper has a record. Afterwards it is open.
 fn has_record<K: Keeper>(keeper: &mut K) -> Result<bool, KeepFail>
-    ensures stands { IfOk result (λ stands. IfSome (K.records keeper.old)
+    ensures stands { IfOk result (λ stands. IfSome (K.keeping keeper.old).records
         (λ told. Stands told stands)) }
     ensures open { OnOk result (K.is_open keeper.new) }
     ensures damaged { (at : ℕ) → result ≡ Err (KeepFail.Damaged at)
         → IfSome (K.damage keeper.old) (λ found. found ≡ Some at) }
-    ensures records { K.records keeper.new ≡ K.records keeper.old }
+    ensures told { K.keeping keeper.new ≡ K.keeping keeper.old }
+    ensures failed { result ≡ Err KeepFail.Failed → MayFail (K.keeping keeper.old).fates }
     ensures lasts { Lasts (K.damage keeper.old) (K.damage keeper.new)
         (K.faults keeper.old) (K.faults keeper.new) (result ≡ Err KeepFail.Failed) }
 {
@@ -156,8 +159,8 @@ fn put_me<K: Keeper>(
     requires { K.is_open keeper.old }
     ensures state { IfOk result (λ state. (meaning_of state ≡ new_state me)
         × (state.tables.defs ≡ config.now.tables)) }
-    ensures records { Commits (put_edit (me_record me) ∷ []) (K.records keeper.old)
-        (K.records keeper.new) (done_of result) }
+    ensures told { Commits (own_edit me) (K.keeping keeper.old)
+        (K.keeping keeper.new) (done_of result) }
     ensures open { OnOk result (K.is_open keeper.new) }
     ensures lasts { Lasts (K.damage keeper.old) (K.damage keeper.new)
         (K.faults keeper.old) (K.faults keeper.new) (result ≡ Err Uncommitted.Failed) }

@@ -1,6 +1,7 @@
 pub mod Causes
 pub mod Told
 pub mod Records
+pub mod Keepings
 pub mod Exchanges
 pub mod Stands
 pub mod StdStreams

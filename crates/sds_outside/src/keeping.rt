@@ -1,5 +1,5 @@
 // Records that outlive a crash.
-ghost use Rattle.std.specs.Prelude.{◌≡◌, ◌⊎◌, ◌≤◌, ℕ, List, Option, OnOk, IfOk, IfSome, IsErrOf};
+ghost use Rattle.std.specs.Prelude.{◌≡◌, ◌≤◌, ℕ, List, Option, OnOk, IfOk, IfSome, IsErrOf};
 ghost use Rattle.sds_outside.specs.Causes.{Rose};
 
 use sds_base::{Bytes, NoMemory, Same, Twin};
@@ -50,13 +50,15 @@ impl From<NoMemory> for KeepFail {
     }
 }
 
-/// Keeps records, each a key and a body, through crashes. What it tells of them stands in the byte order of
-/// their keys, which are distinct. Both `records` and `damage` go on being told, and never begin to be.
+/// Keeps records, each a key and a body, through crashes. What it tells of them stands in the byte
+/// order of their keys, which are distinct. What is told goes on being told, and never begins to be.
 pub trait Keeper {
-    ghost use Rattle.sds_outside.specs.Records.{Record, IsAscending, told_edited, told_ended, Gives};
+    ghost use Rattle.sds_outside.specs.Records.{Record, IsAscending, told_ended, Gives};
+    ghost use Rattle.sds_outside.specs.Keepings.{FailsAs, Keeping, MayFail, NoneFails, with_edits};
 
-    /// The records in the byte order of their keys, where the keeper tells them.
-    ghost records: { Self → Option (List Record) };
+    /// The records in the byte order of their keys, and which of the commits to come fail, where the
+    /// keeper tells them.
+    ghost keeping: { Self → Keeping };
 
     /// What the reading that runs will still give, where the keeper tells it.
     ghost unread: { Self → Option (List Record) };
@@ -73,14 +75,14 @@ pub trait Keeper {
     /// Starts a reading of the records, from the first.
     fn reopen(&mut self) -> Result<(), KeepFail>
         ensures opens { OnOk result (is_open self.new) }
-        ensures unread { OnOk result (unread self.new ≡ records self.old) }
+        ensures unread { OnOk result (unread self.new ≡ (keeping self.old).records) }
         ensures whole { OnOk result (IfSome (damage self.old) (λ found. found ≡ Option.None)) }
         ensures damaged { (at : ℕ) → IsErrOf result (KeepFail.Damaged at) → IfSome (damage self.old) (λ found. found ≡ Option.Some at) }
         ensures no_memory { IsErrOf result KeepFail.NoMemory → (is_open self.old → is_open self.new) × (unread self.new ≡ unread self.old) }
-        ensures records { records self.new ≡ records self.old }
+        ensures keeping { keeping self.new ≡ keeping self.old }
         ensures damage { damage self.new ≡ damage self.old }
         ensures later { faults self.old ≤ faults self.new }
-        ensures failed { IsErrOf result KeepFail.Failed → Rose (faults self.old) (faults self.new) };
+        ensures failed { IsErrOf result KeepFail.Failed → Rose (faults self.old) (faults self.new) × MayFail (keeping self.old).fates };
 
     /// The next record of the reading that runs, or none where none is left.
     fn next(&mut self) -> Result<Option<(Bytes, Bytes)>, KeepFail>
@@ -88,24 +90,24 @@ pub trait Keeper {
         ensures gives { IfOk result (λ next. is_open self.new × Gives (unread self.old) next (unread self.new)) }
         ensures not_damaged { (at : ℕ) → IsErrOf result (KeepFail.Damaged at) → ⊥ }
         ensures no_memory { IsErrOf result KeepFail.NoMemory → is_open self.new × (unread self.new ≡ unread self.old) }
-        ensures records { records self.new ≡ records self.old }
+        ensures keeping { keeping self.new ≡ keeping self.old }
         ensures damage { damage self.new ≡ damage self.old }
         ensures later { faults self.old ≤ faults self.new }
-        ensures failed { IsErrOf result KeepFail.Failed → Rose (faults self.old) (faults self.new) };
+        ensures failed { IsErrOf result KeepFail.Failed → Rose (faults self.old) (faults self.new) × MayFail (keeping self.old).fates };
 
     /// Makes all edits in order, at once. After `Failed` either all were made or none. A commit that answers
     /// Ok ends the reading: nothing is left to read.
     fn commit(&mut self, edits: &[Edit]) -> Result<(), KeepFail>
         requires { is_open self.old }
-        ensures ok { OnOk result (is_open self.new × (records self.new ≡ told_edited edits.now (records self.old))) }
+        ensures ok { OnOk result (is_open self.new × (keeping self.new ≡ with_edits edits.now (keeping self.old)) × NoneFails (keeping self.old).fates) }
         ensures ended { OnOk result (unread self.new ≡ told_ended (unread self.old)) }
-        ensures no_memory { IsErrOf result KeepFail.NoMemory → is_open self.new × (records self.new ≡ records self.old) × (unread self.new ≡ unread self.old) }
-        ensures either { IsErrOf result KeepFail.Failed → (records self.new ≡ records self.old) ⊎ (records self.new ≡ told_edited edits.now (records self.old)) }
+        ensures no_memory { IsErrOf result KeepFail.NoMemory → is_open self.new × (keeping self.new ≡ keeping self.old) × (unread self.new ≡ unread self.old) }
+        ensures fails { IsErrOf result KeepFail.Failed → FailsAs (keeping self.old).fates edits.now (keeping self.old) (keeping self.new) }
         ensures not_damaged { (at : ℕ) → IsErrOf result (KeepFail.Damaged at) → ⊥ }
         ensures damage { damage self.new ≡ damage self.old }
         ensures later { faults self.old ≤ faults self.new }
         ensures failed { IsErrOf result KeepFail.Failed → Rose (faults self.old) (faults self.new) };
 
     /// What is told stands in the byte order of distinct keys.
-    ghost ascends: { (keeper : Self) → IfSome (records keeper) IsAscending };
+    ghost ascends: { (keeper : Self) → IfSome (keeping keeper).records IsAscending };
 }

@@ -182,6 +182,38 @@ fn a_commit_puts_and_drops_and_where_it_fails_it_stands_as_listed(
     Ok(())
 }
 
+/// Opens the keeper and puts a record of this key with the body 3.
+fn put(alloc: Global, keeper: &mut MemKeeper, key: &str) -> Result<(), KeepFail> {
+    keeper.reopen()?;
+    keeper.commit(&[Edit {
+        key: bytes(alloc, key)?,
+        body: Some(bytes(alloc, "3")?),
+    }])
+}
+
+#[test]
+fn an_armed_commit_is_the_first_to_come_that_is_not_to_fail_yet(
+    rt: HostRuntime,
+) -> Result<(), TestFail> {
+    let alloc = rt.alloc();
+    let mut fails = List::new(alloc);
+    fails.push(FailAt {
+        commit: 2,
+        stands: false,
+    })?;
+    let records = two_records(alloc)?;
+    assert!(rt; are_distinct(records.inner().as_slice()));
+    let mut keeper = MemKeeper::new(alloc, records, List::new(alloc), fails)?;
+    keeper.arm(true)?;
+    keeper.arm(false)?;
+    assert_eq!(rt; put(alloc, &mut keeper, "c"), Err(KeepFail::Failed));
+    assert_eq!(rt; put(alloc, &mut keeper, "d"), Err(KeepFail::Failed));
+    assert_eq!(rt; put(alloc, &mut keeper, "e"), Err(KeepFail::Failed));
+    assert_eq!(rt; put(alloc, &mut keeper, "f"), Ok(()));
+    assert_eq!(rt; told(alloc, &mut keeper)?.as_slice(), "a1b2c3f3".as_bytes());
+    Ok(())
+}
+
 #[test]
 fn a_link_gives_its_replies_in_order_and_fails_where_listed_or_unprepared(
     rt: HostRuntime,

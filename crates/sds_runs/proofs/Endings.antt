@@ -1,7 +1,6 @@
 -- How an act is kept tells how the call ends that makes it.
-use Rattle.std.proofs.Common.{◌≡◌, inl, inr, Bool, true, false, cond, Option, None, Some, Result, Ok, Err, refl, sym, ap, subst, ◌∙◌, true≢false}
-use Rattle.std.specs.Prelude.{◌⊎◌}
-use Rattle.sds_outside.specs.Records.{told_edited}
+use Rattle.std.proofs.Common.{◌≡◌, Bool, true, false, cond, Option, None, Some, Result, Ok, Err, refl, sym, ap, subst, ◌∙◌, true≢false}
+use Rattle.sds_outside.specs.Keepings.{FailsAs, with_edits}
 use Rattle.sds_types.specs.declared.config.Config.{Config}
 use Rattle.sds_types.specs.declared.node_fault.NodeFault.{NodeFault}
 use Rattle.sds_types.specs.declared.node_fault.NodeFault.TheVariants.{Counters}
@@ -25,7 +24,7 @@ module _ {A E : Type 0} (config : Config) (before after : Kept) (fault : NodeFau
     answered = λ is.
         let both = keeps.answered is in (
           both.0 ∙ ap (λ b. cond b (Err (fault Counters)) (Ok value)) past,
-          both.1 ∙ ap (λ b. cond b before (record { state = kept.state; records = told_edited kept.edits before.records })) past,
+          both.1 ∙ ap (λ b. cond b before (record { state = kept.state; told = with_edits kept.edits before.told })) past,
         );
     failed = λ is. absurd (true≢false (sym past ∙ (keeps.failed is).0));
     no_memory = keeps.no_memory;
@@ -33,18 +32,14 @@ module _ {A E : Type 0} (config : Config) (before after : Kept) (fault : NodeFau
   kept_on act kept value result false past edits state keeps = record {
     answered = λ is.
         let both = keeps.answered is in
-        let made = both.1 ∙ ap (λ b. cond b before (record { state = kept.state; records = told_edited kept.edits before.records })) past in (
+        let made = both.1 ∙ ap (λ b. cond b before (record { state = kept.state; told = with_edits kept.edits before.told })) past in (
           both.0 ∙ ap (λ b. cond b (Err (fault Counters)) (Ok value)) past,
-          (ap (λ (k : Kept). k.state) made ∙ state, ap (λ (k : Kept). k.records) made ∙ ap (λ e. told_edited e before.records) edits),
+          (ap (λ (k : Kept). k.state) made ∙ state, ap (λ (k : Kept). k.told) made ∙ ap (λ e. with_edits e before.told) edits, both.2 past),
         );
-    failed = λ is. let all = keeps.failed is in (all.1, either all.2);
+    failed = λ is. let all = keeps.failed is in
+        (all.1, subst (λ e. FailsAs before.told.fates e before.told after.told) edits all.2);
     no_memory = keeps.no_memory;
   }
-    where
-      either : (after.records ≡ before.records) ⊎ (after.records ≡ told_edited kept.edits before.records)
-          → (after.records ≡ before.records) ⊎ (after.records ≡ told_edited (edits_of config before.state act) before.records)
-      either (inl same) = inl same
-      either (inr made) = inr (made ∙ ap (λ e. told_edited e before.records) edits)
 
   -- an act is kept
   pub kept_ends : (act : Act) (kept : Keepable) (value : A) (result : Result A E) → kept.past ≡ is_past kept.state.counts

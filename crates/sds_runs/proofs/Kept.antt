@@ -1,7 +1,6 @@
 -- The ways in which keeping an act ends.
-use Rattle.std.proofs.Common.{◌≡◌, ◌≢◌, Bool, true, false, cond, Result, Ok, Err, refl, sym, ap, ◌∙◌}
-use Rattle.std.specs.Prelude.{◌⊎◌}
-use Rattle.sds_outside.specs.Records.{told_edited}
+use Rattle.std.proofs.Common.{◌≡◌, ◌≢◌, Bool, true, false, cond, Result, Ok, Err, refl, sym, ap, ◌∙◌, true≢false}
+use Rattle.sds_outside.specs.Keepings.{FailsAs, NoneFails, with_edits}
 use Rattle.sds_types.specs.declared.node_fault.NodeFault.{NodeFault}
 use Rattle.sds_types.specs.declared.node_fault.NodeFault.TheVariants.{Counters, Keeper, NoMemory}
 use Rattle.sds_commit.specs.Ends.{Kept}
@@ -26,25 +25,26 @@ same_err a b x first second = cc
 
 module _ {A E : Type 0} (fault : NodeFault → E) (apart : Apart fault) (act : Keepable) (value : A) (before after : Kept) where
   -- it stands
-  pub stands : act.past ≡ false → after.state ≡ act.state → after.records ≡ told_edited act.edits before.records
+  pub stands : act.past ≡ false → after.state ≡ act.state → (after.told ≡ with_edits act.edits before.told) × NoneFails before.told.fates
       → Keeps fault act value before after (Ok value)
-  stands past state records = record {
+  stands past state told = record {
     answered = λ is. (
       sym (ap (λ b. cond b (Err (fault Counters)) (Ok value)) past),
-      ap (λ s. record { state = s; records = after.records }) state
-          ∙ (ap (λ r. record { state = act.state; records = r }) records
-          ∙ sym (ap (λ b. cond b before (record { state = act.state; records = told_edited act.edits before.records })) past)),
+      ap (λ s. record { state = s; told = after.told }) state
+          ∙ (ap (λ t. record { state = act.state; told = t }) told.0
+          ∙ sym (ap (λ b. cond b before (record { state = act.state; told = with_edits act.edits before.told })) past)),
+      λ within. told.1,
     );
     failed = λ has. absurd (cc);
     no_memory = λ lacks. absurd (cc);
   }
 
   -- the keeper failed
-  pub fails : act.past ≡ false → after.state ≡ before.state → (after.records ≡ before.records) ⊎ (after.records ≡ told_edited act.edits before.records)
+  pub fails : act.past ≡ false → after.state ≡ before.state → FailsAs before.told.fates act.edits before.told after.told
       → Keeps fault act value before after (Err (fault Keeper))
-  fails past state records = record {
+  fails past state told = record {
     answered = λ is. absurd (is.0 refl);
-    failed = λ has. (past, state, records);
+    failed = λ has. (past, state, told);
     no_memory = λ lacks. absurd (apart.memory (same_err (fault Keeper) (fault NoMemory) (Err (fault Keeper)) refl lacks));
   }
 
@@ -63,7 +63,8 @@ module _ {A E : Type 0} (fault : NodeFault → E) (apart : Apart fault) (act : K
     answered = λ any.
         let past = past_by (λ lacks. any.1 (ap (λ x. Err x) (same_err e (fault NoMemory) tried failing lacks))) in (
           ap (λ x. Err x) past.1 ∙ sym (ap (λ b. cond b (Err (fault Counters)) (Ok value)) past.0),
-          same ∙ sym (ap (λ b. cond b before (record { state = act.state; records = told_edited act.edits before.records })) past.0),
+          same ∙ sym (ap (λ b. cond b before (record { state = act.state; told = with_edits act.edits before.told })) past.0),
+          λ within. absurd (true≢false (sym past.0 ∙ within)),
         );
     failed = λ has.
         let failed : e ≡ fault Keeper = same_err e (fault Keeper) (Err e) refl has in

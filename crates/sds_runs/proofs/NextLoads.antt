@@ -1,7 +1,7 @@
 -- How a load ends, by what its lane says and by how its rows end.
 use Rattle.std.proofs.Common.{◌≡◌, ℕ, ◌+◌, Bool, true, false, cond, List, [], Option, None, Some, Result, Ok, Err, refl, sym, ap, subst, ◌∙◌, true≢false}
 use Rattle.std.specs.Prelude.{nat_le, nat_lt}
-use Rattle.sds_outside.specs.Records.{Record}
+use Rattle.sds_outside.specs.Keepings.{Keeping}
 use Rattle.sds_types.specs.declared.config.Config.{Config}
 use Rattle.sds_types.specs.declared.lane.LaneError.{LaneError}
 use Rattle.sds_types.specs.declared.lane.LaneIn.{LaneIn}
@@ -56,9 +56,9 @@ abbrev pub EndsLoad : Config → Kept → Kept → List ℕ → Prepared → ℕ
 EndsLoad config before after from batch channel own result =
     EndsOwn config before after Fault (load_by before.state from batch channel own) (Ok own) result
 
-module _ (config : Config) (state : State) (records : Option (List Record)) (from : List ℕ) where
+module _ (config : Config) (state : State) (kept : Keeping) (from : List ℕ) where
   abbrev before : Kept
-  before = record { state = state; records = records }
+  before = record { state = state; told = kept }
 
   -- AN ERROR
   module _ (channel : ℕ) (error : LaneError) where

@@ -1,6 +1,6 @@
 -- How a write ends, by how its rows end.
 use Rattle.std.proofs.Common.{◌≡◌, ◌≢◌, ℕ, List, Option, None, Some, Result, Ok, Err, refl, sym, ap, subst, ◌∙◌}
-use Rattle.sds_outside.specs.Records.{Record}
+use Rattle.sds_outside.specs.Keepings.{Keeping}
 use Rattle.sds_types.specs.declared.config.Config.{Config}
 use Rattle.sds_types.specs.declared.node_fault.NodeFault.TheVariants.{NoMemory}
 use Rattle.sds_types.specs.declared.row.TableRow.{TableRow}
@@ -34,12 +34,12 @@ use Rattle.sds_runs.proofs.Written.{answer_is_written, edits_are_written, state_
 abbrev pub EndsWrite : Config → Kept → Kept → Act → Result Written WriteRefusal → Result Written WriteRefusal → Type 0
 EndsWrite config before after act own result = EndsOwn config before after Fault (write_by act own) own result
 
-module _ (config : Config) (state : State) (records : Option (List Record)) (writer : List ℕ) (number : ℕ) (tx : List TxRow) where
+module _ (config : Config) (state : State) (kept : Keeping) (writer : List ℕ) (number : ℕ) (tx : List TxRow) where
   abbrev act : Act
   act = Wrote writer number tx
 
   abbrev before : Kept
-  before = record { state = state; records = records }
+  before = record { state = state; told = kept }
 
   abbrev own : Result Written WriteRefusal
   own = next_answer config state writer number tx

@@ -2,7 +2,7 @@
 use Rattle.std.proofs.Common.{◌≡◌, ℕ, ◌+◌, ◌≤◌, ◌==◌, Bool, true, false, cond, List, [], ◌∷◌, length, Option, None, Some, Result, Ok, Err, refl, sym, ap, subst, ◌∙◌, arith}
 use Rattle.std.specs.Prelude.{nat_lt}
 use Rattle.std.proofs.lemmas.Bool.Decides.{nat_tests}
-use Rattle.sds_outside.specs.Records.{Record}
+use Rattle.sds_outside.specs.Keepings.{Keeping}
 use Rattle.sds_value.specs.declared.row.Event.TheVariants.{Delete}
 use Rattle.sds_types.specs.Limits.{most_write_rows}
 use Rattle.sds_types.specs.declared.config.Config.{Config}
@@ -70,12 +70,12 @@ module _ (state : State) (writer : List ℕ) (number : ℕ) (act : Act) (answer 
       (refusal act (Broken 1 UnknownTable) (λ has. absurd (cc), λ lacks. absurd (cc)))
 
 -- THE CALL, by its number of rows and its number
-module _ (config : Config) (state : State) (records : Option (List Record)) (writer : List ℕ) (number : ℕ) (tx : List TxRow) where
+module _ (config : Config) (state : State) (kept : Keeping) (writer : List ℕ) (number : ℕ) (tx : List TxRow) where
   abbrev the_act : Act
   the_act = Wrote writer number tx
 
   abbrev before : Kept
-  before = record { state = state; records = records }
+  before = record { state = state; told = kept }
 
   abbrev own : Result Written WriteRefusal
   own = own_answer config state writer number tx

@@ -1,6 +1,6 @@
 -- How it ends to keep an act whose edits and whose state are told.
-use Rattle.std.specs.Prelude.{◌≡◌, ◌⊎◌, Bool, true, false, if◌then◌else◌, List, Option, Result, Ok, Err}
-use Rattle.sds_outside.specs.Records.{Record, told_edited}
+use Rattle.std.specs.Prelude.{◌≡◌, Bool, true, false, if◌then◌else◌, List, Result, Ok, Err}
+use Rattle.sds_outside.specs.Keepings.{FailsAs, NoneFails, with_edits}
 use Rattle.sds_outside.specs.declared.keeping.Edit.{Edit}
 use Rattle.sds_types.specs.declared.node_fault.NodeFault.{NodeFault}
 use Rattle.sds_types.specs.declared.node_fault.NodeFault.TheVariants.{Counters}
@@ -13,10 +13,10 @@ pub record Keepable : Type 0 where
   pub edits : List Edit
   pub state : State
 
--- the state and the records after an act, which isn't made where a counter would pass its end
+-- the state and what is told after an act, which isn't made where a counter would pass its end
 abbrev pub kept_by : Keepable → Kept → Kept
 kept_by act before = if act.past then before
-    else record { state = act.state; records = told_edited act.edits before.records }
+    else record { state = act.state; told = with_edits act.edits before.told }
 
 -- an act is kept, with this value, or a counter would pass its end; or else the keeper failed, or
 -- memory was wanting
@@ -24,7 +24,7 @@ pub record Keeps {A E : Type 0} (fault : NodeFault → E) (act : Keepable) (valu
     (before after : Kept) (result : Result A E) : Type 0 where
   pub answered : IsAnswer fault result
       → (result ≡ (if act.past then Err (fault Counters) else Ok value))
-      × (after ≡ kept_by act before)
+      × (after ≡ kept_by act before) × (act.past ≡ false → NoneFails before.told.fates)
   pub failed : HasFailed fault result → (act.past ≡ false) × (after.state ≡ before.state)
-      × ((after.records ≡ before.records) ⊎ (after.records ≡ told_edited act.edits before.records))
+      × FailsAs before.told.fates act.edits before.told after.told
   pub no_memory : LacksMemory fault result → after ≡ before

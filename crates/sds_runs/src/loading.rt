@@ -116,7 +116,7 @@ fn commit_lists<K: Keeper>(
 ) -> Result<(), Uncommitted>
     requires open { K.is_open keeper.old }
     requires order { AscendBy (lane_key config.now) lanes.old.items }
-    ensures records { Commits edits.now (K.records keeper.old) (K.records keeper.new) result }
+    ensures told { Commits edits.now (K.keeping keeper.old) (K.keeping keeper.new) result }
     ensures lists { OnOk result ((changes.new.items ≡ changes.old.items ++ new)
         × (lanes.new.items ≡ with_item (lane_key config.now) lane lanes.old.items)) }
     ensures err { OnErr result ((changes.new.items ≡ changes.old.items)
@@ -142,7 +142,7 @@ fn commit_load<K: Keeper>(
 ) -> Result<(), Uncommitted>
     requires open { K.is_open keeper.old }
     requires order { AscendBy (lane_key config.now) state.old.lanes }
-    ensures records { Commits ready.edits (K.records keeper.old) (K.records keeper.new) result }
+    ensures told { Commits ready.edits (K.keeping keeper.old) (K.keeping keeper.new) result }
     ensures state { OnOk result (state.new ≡ record state.old {
       counts = ready.counts;
       changes = state.old.changes ++ ready.changes;
@@ -186,7 +186,7 @@ fn keep_load<K: Keeper>(
     requires open { K.is_open keeper.old }
     ensures keeps { Keeps PeerRefusal.Fault (load_kept config.now (meaning_of state.old) lane
         (without_undos dones.now)) answer
-        (kept_with state.old (K.records keeper.old)) (kept_with state.new (K.records keeper.new))
+        (kept_with state.old (K.keeping keeper.old)) (kept_with state.new (K.keeping keeper.new))
         result }
     ensures tables { state.new.tables ≡ state.old.tables }
     ensures open { (HasFailed PeerRefusal.Fault result → ⊥) → K.is_open keeper.new }
@@ -215,8 +215,8 @@ fn keep_or_undo<K: Keeper>(
     ensures keeps { (before : List TableRow) → Undone dones state.old.tables before
         → Keeps PeerRefusal.Fault (load_kept config.now (meaning_of state.old) lane
         (without_undos dones)) answer
-        (record { state = with_rows (meaning_of state.old) before; records = K.records keeper.old })
-        (kept_with state.new (K.records keeper.new)) result }
+        (record { state = with_rows (meaning_of state.old) before; told = K.keeping keeper.old })
+        (kept_with state.new (K.keeping keeper.new)) result }
     ensures tables { state.new.tables.defs ≡ state.old.tables.defs }
     ensures open { (HasFailed PeerRefusal.Fault result → ⊥) → K.is_open keeper.new }
     ensures lasts { Lasts (K.damage keeper.old) (K.damage keeper.new) (K.faults keeper.old)
@@ -241,8 +241,8 @@ fn keep_lane<K: Keeper>(
     requires state { AreCounts state.old.counts × AscendBy (lane_key config.now) state.old.lanes }
     requires open { K.is_open keeper.old }
     ensures keeps { Keeps PeerRefusal.Fault (error_kept config.now (meaning_of state.old) lane)
-        answer (kept_with state.old (K.records keeper.old))
-        (kept_with state.new (K.records keeper.new)) result }
+        answer (kept_with state.old (K.keeping keeper.old))
+        (kept_with state.new (K.keeping keeper.new)) result }
     ensures tables { state.new.tables ≡ state.old.tables }
     ensures open { (HasFailed PeerRefusal.Fault result → ⊥) → K.is_open keeper.new }
     ensures lasts { Lasts (K.damage keeper.old) (K.damage keeper.new) (K.faults keeper.old)
@@ -266,8 +266,8 @@ fn keep_error<K: Keeper>(
 ) -> Result<LoadAnswer, PeerRefusal>
     requires state { AreCounts state.old.counts × AscendBy (lane_key config.now) state.old.lanes }
     requires open { K.is_open keeper.old }
-    ensures ends { Ends config.now (kept_with state.old (K.records keeper.old))
-        (kept_with state.new (K.records keeper.new))
+    ensures ends { Ends config.now (kept_with state.old (K.keeping keeper.old))
+        (kept_with state.new (K.keeping keeper.new))
         (within config.now (meaning_of state.old)
         (loads.error_act (meaning_of state.old) (chars from.now) channel error))
         PeerRefusal.Fault (answer_within PeerRefusal.Fault config.now (meaning_of state.old)
@@ -304,8 +304,8 @@ fn load_rows<K: Keeper>(
     requires open { K.is_open keeper.old }
     requires asked { IsAsked config.now (meaning_of state.old) (Load (chars from.now) batch.now)
         × (length (rows_in batch.now.body) < 2 ^ 32) × (batch.now.channel ≡ Some channel) }
-    ensures ends { Ends config.now (kept_with state.old (K.records keeper.old))
-        (kept_with state.new (K.records keeper.new))
+    ensures ends { Ends config.now (kept_with state.old (K.keeping keeper.old))
+        (kept_with state.new (K.keeping keeper.new))
         (within config.now (meaning_of state.old) (loads.load_by (meaning_of state.old)
         (chars from.now) batch.now channel
         (loads.outcome_answer config.now (meaning_of state.old) batch.now)))
@@ -360,8 +360,8 @@ pub fn load<K: Keeper>(
     requires open { K.is_open keeper.old }
     requires asked { IsAsked config.now (meaning_of state.old) (Load (chars from.now) batch.now) }
     requires few { length (rows_in batch.now.body) < 2 ^ 32 }
-    ensures ends { Ends config.now (kept_with state.old (K.records keeper.old))
-        (kept_with state.new (K.records keeper.new))
+    ensures ends { Ends config.now (kept_with state.old (K.keeping keeper.old))
+        (kept_with state.new (K.keeping keeper.new))
         (loads.load_act config.now (meaning_of state.old) (chars from.now) batch.now)
         PeerRefusal.Fault (loads.load_answer config.now (meaning_of state.old) (chars from.now)
         batch.now) result }

@@ -100,7 +100,7 @@ fn commit_lists<K: Keeper>(
 ) -> Result<(), Uncommitted>
     requires open { K.is_open keeper.old }
     requires order { AscendBy writer_key writers.old.items }
-    ensures records { Commits edits.now (K.records keeper.old) (K.records keeper.new) result }
+    ensures told { Commits edits.now (K.keeping keeper.old) (K.keeping keeper.new) result }
     ensures lists { OnOk result ((changes.new.items ≡ changes.old.items ++ new)
         × (writers.new.items ≡ with_item writer_key last writers.old.items)) }
     ensures err { OnErr result ((changes.new.items ≡ changes.old.items)
@@ -125,7 +125,7 @@ fn commit_write<K: Keeper>(
 ) -> Result<(), Uncommitted>
     requires open { K.is_open keeper.old }
     requires order { AscendBy writer_key state.old.writers }
-    ensures records { Commits ready.edits (K.records keeper.old) (K.records keeper.new) result }
+    ensures told { Commits ready.edits (K.keeping keeper.old) (K.keeping keeper.new) result }
     ensures state { OnOk result (state.new ≡ record state.old {
       counts = ready.counts;
       writers = with_item writer_key ready.last state.old.writers;
@@ -168,7 +168,7 @@ fn keep_write<K: Keeper>(
     ensures keeps { Keeps WriteRefusal.Fault (write_kept config.now (meaning_of state.old)
         (chars writer.now) number (without_undos dones.now))
         (written config.now (meaning_of state.old) (without_undos dones.now))
-        (kept_with state.old (K.records keeper.old)) (kept_with state.new (K.records keeper.new))
+        (kept_with state.old (K.keeping keeper.old)) (kept_with state.new (K.keeping keeper.new))
         result }
     ensures tables { state.new.tables ≡ state.old.tables }
     ensures open { (HasFailed WriteRefusal.Fault result → ⊥) → K.is_open keeper.new }
@@ -202,8 +202,8 @@ fn keep_or_undo<K: Keeper>(
         → Keeps WriteRefusal.Fault (write_kept config.now (meaning_of state.old)
         (chars writer.now) number (without_undos dones))
         (written config.now (meaning_of state.old) (without_undos dones))
-        (record { state = with_rows (meaning_of state.old) before; records = K.records keeper.old })
-        (kept_with state.new (K.records keeper.new)) result }
+        (record { state = with_rows (meaning_of state.old) before; told = K.keeping keeper.old })
+        (kept_with state.new (K.keeping keeper.new)) result }
     ensures tables { state.new.tables.defs ≡ state.old.tables.defs }
     ensures open { (HasFailed WriteRefusal.Fault result → ⊥) → K.is_open keeper.new }
     ensures lasts { Lasts (K.damage keeper.old) (K.damage keeper.new) (K.faults keeper.old)
@@ -241,8 +241,8 @@ fn next_write<K: Keeper>(
     requires open { K.is_open keeper.old }
     requires asked { IsAsked config.now (meaning_of state.old)
         (Write (chars writer.now) number tx.now) × (length tx.now ≤ most_write_rows) }
-    ensures ends { Ends config.now (kept_with state.old (K.records keeper.old))
-        (kept_with state.new (K.records keeper.new))
+    ensures ends { Ends config.now (kept_with state.old (K.keeping keeper.old))
+        (kept_with state.new (K.keeping keeper.new))
         (within config.now (meaning_of state.old) (writes.write_by
         (Wrote (chars writer.now) number tx.now) (writes.next_answer config.now
         (meaning_of state.old) (chars writer.now) number tx.now))) WriteRefusal.Fault
@@ -282,8 +282,8 @@ pub fn write<K: Keeper>(
     requires open { K.is_open keeper.old }
     requires asked { IsAsked config.now (meaning_of state.old)
         (Write (chars writer.now) number tx.now) }
-    ensures ends { Ends config.now (kept_with state.old (K.records keeper.old))
-        (kept_with state.new (K.records keeper.new))
+    ensures ends { Ends config.now (kept_with state.old (K.keeping keeper.old))
+        (kept_with state.new (K.keeping keeper.new))
         (writes.write_act config.now (meaning_of state.old) (chars writer.now) number tx.now)
         WriteRefusal.Fault (writes.write_answer config.now (meaning_of state.old)
         (chars writer.now) number tx.now) result }

@@ -13,7 +13,7 @@ returns-in_err-commit-clause-ends g c = λ from acks is.
     passed_on c.args.config.now c.args.state.now c.args.state.now _ _ (Acked from acks) _ c.in_err-commit.field-0.0 _
     (restating_is c.args.config.now (meaning_of c.args.state.now) from acks c.args.changed.now c.args.counts c.deref.result.now _ c.deref-2.result.now is
     c.requires.counts (c.deref.ensures.value ∙ c.inner.ensures) c.in_ok-edits.ensures c.deref-2.ensures.value)
-    c.in_err-commit.ensures.records c.from_residual-in_err-commit.ensures.1 refl
+    c.in_err-commit.ensures.told c.from_residual-in_err-commit.ensures.1 refl
 
 pub returns-clause-ends : goal.returns-clause-ends
 returns-clause-ends g c = λ from acks is.
@@ -22,6 +22,6 @@ returns-clause-ends g c = λ from acks is.
     c.deref-2.result.now
     (restating_is c.args.config.now (meaning_of c.args.state.now) from acks c.args.changed.now c.args.counts c.deref.result.now _ c.deref-2.result.now is
     c.requires.counts (c.deref.ensures.value ∙ c.inner.ensures) c.in_ok-edits.ensures c.deref-2.ensures.value)
-    c.in_ok-commit.ensures.records
+    c.in_ok-commit.ensures.told
     (restating_state c.args.config.now (meaning_of c.args.state.now) from acks c.args.counts c.of.result c.requires.counts
     (c.of.ensures ∙ (c.restate.ensures from acks (is ∙ ap (λ bs. restated_by bs from acks) (sym stand)) ∙ ap (λ bs. acknowledged bs (Acked from acks ∷ [])) stand)))

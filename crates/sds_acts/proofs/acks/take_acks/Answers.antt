@@ -27,7 +27,7 @@ pub returns-then-count-eq0-clause-ends : goal.returns-then-count-eq0-clause-ends
 returns-then-count-eq0-clause-ends g c =
     let state = meaning_of c.args.state.now in
     let from = chars c.args.from.now in
-    let now = kept_with c.args.state.now (g.K.Keeper.records c.args.keeper.now) in
+    let now = kept_with c.args.state.now (g.K.Keeper.keeping c.args.keeper.now) in
     let own = c.in_ok-judge_acks.ensures c.args.config.now in
     let count = c.count_of-count.ensures
     ∙ c.in_ok-changed.ensures.count c.args.config.now state (sym (c.deref.ensures.value ∙ c.inner.ensures)) in
@@ -40,7 +40,7 @@ pub returns-in_default-clause-ends : goal.returns-in_default-clause-ends
 returns-in_default-clause-ends g c =
     let state = meaning_of c.args.state.now in
     let from = chars c.args.from.now in
-    let now = kept_with c.args.state.now (g.K.Keeper.records c.args.keeper.now) in
+    let now = kept_with c.args.state.now (g.K.Keeper.keeping c.args.keeper.now) in
     let own = c.in_ok-judge_acks.ensures c.args.config.now in
     let count = c.count_of-count.ensures
     ∙ c.in_ok-changed.ensures.count c.args.config.now state (sym (c.deref.ensures.value ∙ c.inner.ensures)) in
@@ -53,8 +53,8 @@ pub returns-in_err-restate_all-clause-ends : goal.returns-in_err-restate_all-cla
 returns-in_err-restate_all-clause-ends g c =
     let state = meaning_of c.args.state.now in
     let from = chars c.args.from.now in
-    let now = kept_with c.args.state.now (g.K.Keeper.records c.args.keeper.now) in
-    let later = kept_with c.restate_all.new.state (g.K.Keeper.records c.restate_all.new.keeper) in
+    let now = kept_with c.args.state.now (g.K.Keeper.keeping c.args.keeper.now) in
+    let later = kept_with c.restate_all.new.state (g.K.Keeper.keeping c.restate_all.new.keeper) in
     let stand = c.deref.ensures.value ∙ c.inner.ensures in
     let own = c.in_ok-judge_acks.ensures c.args.config.now in
     let count = c.count_of-count.ensures ∙ c.in_ok-changed.ensures.count c.args.config.now state (sym stand) in
@@ -74,8 +74,8 @@ pub returns-clause-ends : goal.returns-clause-ends
 returns-clause-ends g c =
     let state = meaning_of c.args.state.now in
     let from = chars c.args.from.now in
-    let now = kept_with c.args.state.now (g.K.Keeper.records c.args.keeper.now) in
-    let later = kept_with c.restate_all.new.state (g.K.Keeper.records c.restate_all.new.keeper) in
+    let now = kept_with c.args.state.now (g.K.Keeper.keeping c.args.keeper.now) in
+    let later = kept_with c.restate_all.new.state (g.K.Keeper.keeping c.restate_all.new.keeper) in
     let stand = c.deref.ensures.value ∙ c.inner.ensures in
     let own = c.in_ok-judge_acks.ensures c.args.config.now in
     let count = c.count_of-count.ensures ∙ c.in_ok-changed.ensures.count c.args.config.now state (sym stand) in

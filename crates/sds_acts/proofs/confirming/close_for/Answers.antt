@@ -12,7 +12,7 @@ returns-in_err-commit-clause-ends g c =
     passed_on c.args.config.now c.args.state.now c.args.state.now _ _ (Confirmed (chars c.args.peer.now)) c.deref-2.result.now c.in_err-commit.field-0.0 _
     (closing_is c.args.config.now (meaning_of c.args.state.now) (chars c.args.peer.now) c.args.counts c.deref.result.now _ c.deref-2.result.now
     c.requires.counts (c.deref.ensures.value ∙ c.inner.ensures) c.in_ok-edits.ensures c.deref-2.ensures.value)
-    c.in_err-commit.ensures.records c.from_residual-in_err-commit.ensures.1 refl
+    c.in_err-commit.ensures.told c.from_residual-in_err-commit.ensures.1 refl
 
 pub returns-clause-ends : goal.returns-clause-ends
 returns-clause-ends g c =
@@ -20,7 +20,7 @@ returns-clause-ends g c =
     (Confirmed (chars c.args.peer.now)) c.deref-2.result.now
     (closing_is c.args.config.now (meaning_of c.args.state.now) (chars c.args.peer.now) c.args.counts c.deref.result.now _ c.deref-2.result.now
     c.requires.counts (c.deref.ensures.value ∙ c.inner.ensures) c.in_ok-edits.ensures c.deref-2.ensures.value)
-    c.in_ok-commit.ensures.records
+    c.in_ok-commit.ensures.told
     (closing_state c.args.config.now (meaning_of c.args.state.now) (chars c.args.peer.now) c.args.counts c.of.result c.requires.counts
     (c.of.ensures ∙ (c.close_openings.ensures
     ∙ ap (λ os. map (closed_for (chars c.args.peer.now)) os) (c.into_inner-openings.ensures ∙ c.replace.ensures.value))))

@@ -19,7 +19,7 @@ pub returns-in_err-judge_join-clause-ends : goal.returns-in_err-judge_join-claus
 returns-in_err-judge_join-clause-ends g c =
     let state = meaning_of c.args.state.now in
     let own = own_join_answer c.args.config.now state c.args.other.now (chars c.args.token.now) in
-    let now = kept_with c.args.state.now (g.K.Keeper.records c.args.keeper.now) in
+    let now = kept_with c.args.state.now (g.K.Keeper.keeping c.args.keeper.now) in
     let same = told_error c.from_residual.result c.in_err-judge_join.field-0.0 c.from_residual.ensures.1 in
     judged Fault reg_apart c.args.config.now now now (next_join c.args.config.now state c.args.other.now (chars c.args.token.now)) (told_join own)
     c.from_residual.result (join_refused state c.args.other.now own c.in_err-judge_join.field-0.0 (sym c.in_err-judge_join.ensures))
@@ -39,8 +39,8 @@ returns-clause-ends g c =
     let state = meaning_of c.args.state.now in
     let own = own_join_answer c.args.config.now state c.args.other.now (chars c.args.token.now) in
     let joins = kept_with_token c.args.other.now (chars c.args.token.now) false in
-    made Fault reg_apart c.args.config.now (kept_with c.args.state.now (g.K.Keeper.records c.args.keeper.now))
-    (kept_with c.keep.new.state (g.K.Keeper.records c.keep.new.keeper)) (Joined joins)
+    made Fault reg_apart c.args.config.now (kept_with c.args.state.now (g.K.Keeper.keeping c.args.keeper.now))
+    (kept_with c.keep.new.state (g.K.Keeper.keeping c.keep.new.keeper)) (Joined joins)
     (next_join c.args.config.now state c.args.other.now (chars c.args.token.now)) (told_join own) (Ok tt)
     (joins_new state c.args.other.now false own (chars c.args.token.now) (sym c.if-is_peer.ensures)
     (join_told c.args.config.now state c.args.other.now (chars c.args.token.now) (sym c.in_ok-judge_join.ensures)))

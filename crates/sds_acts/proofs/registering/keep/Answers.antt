@@ -17,7 +17,7 @@ returns-in_err-keep_peer-clause-ends g c =
     passed_on c.args.config.now c.args.state.now c.keep_peer.new.state _ _ (Joined joins) c.deref-2.result.now c.in_err-keep_peer.field-0.0 _
     (joining_is c.args.config.now (meaning_of c.args.state.now) joins c.args.counts c.in_ok-kept.kept c.deref.result.now _ c.deref-2.result.now
     c.requires.counts c.in_ok-kept.ensures (c.deref.ensures.value ∙ c.inner.ensures) c.in_ok-edits.ensures c.deref-2.ensures.value)
-    c.in_err-keep_peer.ensures.records c.from_residual-in_err-keep_peer.ensures.1 c.in_err-keep_peer.ensures.err
+    c.in_err-keep_peer.ensures.told c.from_residual-in_err-keep_peer.ensures.1 c.in_err-keep_peer.ensures.err
 
 pub returns-clause-ends : goal.returns-clause-ends
 returns-clause-ends g c =
@@ -25,7 +25,7 @@ returns-clause-ends g c =
     act_made c.args.config.now c.args.state.now (record c.give.new.state { counts = c.args.counts }) _ _ (Joined joins) c.deref-2.result.now
     (joining_is c.args.config.now (meaning_of c.args.state.now) joins c.args.counts c.in_ok-kept.kept c.deref.result.now _ c.deref-2.result.now
     c.requires.counts c.in_ok-kept.ensures (c.deref.ensures.value ∙ c.inner.ensures) c.in_ok-edits.ensures c.deref-2.ensures.value)
-    c.in_ok-keep_peer.ensures.records
+    c.in_ok-keep_peer.ensures.told
     (ap (λ (s : kept.State). meaning_of (record s { counts = c.args.counts }))
     (c.give.ensures ∙ ap (λ (s : kept.State). record s { openings = given_if c.args.child c.args.peer.now s.openings }) c.in_ok-keep_peer.ensures.ok)
     ∙ joining_state c.args.config.now (meaning_of c.args.state.now) joins c.args.counts _ _ c.requires.counts

@@ -10,7 +10,7 @@ returns-in_err-end-clause-ends g c =
     passed_on c.args.config.now c.args.state.now (record c.args.state.now { batches = c.of.result }) _ _ Routed c.deref-2.result.now c.in_err-end.field-0.0 _
     (made_edits c.args.config.now (meaning_of c.args.state.now) c.args.made.items c.args.counts _ c.deref-2.result.now c.deref.result.now
     c.requires.batches c.requires.counts c.deref.ensures.value c.in_ok-edits.ensures c.deref-2.ensures.value)
-    c.in_err-end.ensures.records c.from_residual-in_err-end.ensures.1
+    c.in_err-end.ensures.told c.from_residual-in_err-end.ensures.1
     (ap (λ bs. record c.args.state.now { batches = bs })
     (c.of.ensures ∙ (c.in_err-end.ensures.err ∙ (c.into_inner-batches.ensures ∙ c.replace.ensures.value))))
 
@@ -19,6 +19,6 @@ returns-clause-ends g c =
     act_made c.args.config.now c.args.state.now (record c.args.state.now { counts = c.args.counts; batches = c.of.result }) _ _ Routed c.deref-2.result.now
     (made_edits c.args.config.now (meaning_of c.args.state.now) c.args.made.items c.args.counts _ c.deref-2.result.now c.deref.result.now
     c.requires.batches c.requires.counts c.deref.ensures.value c.in_ok-edits.ensures c.deref-2.ensures.value)
-    c.in_ok-end.ensures.records
+    c.in_ok-end.ensures.told
     (made_state c.args.config.now (meaning_of c.args.state.now) c.args.made.items c.of.result c.args.counts c.requires.batches c.requires.counts
     (c.of.ensures ∙ (c.in_ok-end.ensures.ok ∙ ap (λ bs. bs ++ c.args.made.items) (c.into_inner-batches.ensures ∙ c.replace.ensures.value))))

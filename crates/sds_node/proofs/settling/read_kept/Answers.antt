@@ -5,7 +5,7 @@ use Rattle.sds_node.proofs.settling.read_kept.Goals as goal
 
 pub returns-clause-cause : goal.returns-clause-cause
 returns-clause-cause g c =
-    λ found is. cause_told c.args.config.now (g.K.Keeper.records c.args.keeper.now) (g.K.Keeper.damage c.args.keeper.now) c.deref.result.now found
+    λ found is. cause_told c.args.config.now (g.K.Keeper.keeping c.args.keeper.now) (g.K.Keeper.damage c.args.keeper.now) c.deref.result.now found
     (λ told same. c.in-Ok.ensures.all told same ∙ cc) (c.read_records.ensures.cause found is)
 
 pub returns-clause-lasts : goal.returns-clause-lasts

@@ -13,7 +13,7 @@ returns-in-Ok-clause-read c =
     let kept = records_of c.args.records.now in
     let told = c.in-Ok.ensures.reading c.requires kept (pairs_back c.args.records.now) in
     let image = agreeing_records_are_images c.args.config.now kept told.parts (meaning_of c.in-Ok.state) c.requires told.told told.state_is told.agree in
-    (record { sound = image.0; tables = c.in-Ok.ensures.defs }, sym (pairs_back c.args.records.now) ∙ ap pairs (sym image.1))
+    (record { sound = image.0; held = image.1.0; tables = c.in-Ok.ensures.defs }, sym (pairs_back c.args.records.now) ∙ ap pairs (sym image.1.1))
 
 pub returns-in-Err-BadRecord-clause-cause : goal.returns-in-Err-BadRecord-clause-cause
 returns-in-Err-BadRecord-clause-cause c =

@@ -6,7 +6,7 @@ use Rattle.sds_runs.proofs.writing.write.Goals as goal
 
 pub returns-in-Some-clause-ends : goal.returns-in-Some-clause-ends
 returns-in-Some-clause-ends g c =
-    by_number c.args.config.now (meaning_of c.args.state.now) (g.K.Keeper.records c.args.keeper.now) (chars c.args.writer.now) c.args.number c.args.tx.now
+    by_number c.args.config.now (meaning_of c.args.state.now) (g.K.Keeper.keeping c.args.keeper.now) (chars c.args.writer.now) c.args.number c.args.tx.now
     c.in-Some.answer c.if-tx-gt-MOST_WRITE_ROWS.false c.in-Some.ensures
 
 pub returns-in-Some-clause-lasts : goal.returns-in-Some-clause-lasts
@@ -14,6 +14,6 @@ returns-in-Some-clause-lasts g c = record {
   damage = refl;
   faults = omega arith;
   rose = λ has.
-      absurd ((told_by_number c.args.config.now (meaning_of c.args.state.now) (g.K.Keeper.records c.args.keeper.now) (chars c.args.writer.now) c.args.number c.args.tx.now
+      absurd ((told_by_number c.args.config.now (meaning_of c.args.state.now) (g.K.Keeper.keeping c.args.keeper.now) (chars c.args.writer.now) c.args.number c.args.tx.now
       c.in-Some.answer c.in-Some.ensures).0 has);
 }

@@ -1,0 +1,13 @@
+pub mod Weights
+pub mod Values
+pub mod Sums
+pub mod Rows
+pub mod Plain
+pub mod Expressions
+pub mod Sides
+pub mod Keys
+pub mod Marks
+pub mod KeyFields
+pub mod Made
+pub mod Ready
+pub mod Writable

@@ -1,0 +1,2 @@
+-- Lemmas on tables after a step, for the tests.
+mod Kept

@@ -1,0 +1,3 @@
+pub mod Standing
+pub mod Placed
+pub mod Playing

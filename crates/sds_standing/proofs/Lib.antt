@@ -1,0 +1,2 @@
+-- Lemmas on nodes that stand for nodes of a world.
+pub mod Calls
