@@ -62,7 +62,7 @@ one_id next node = on (world.has_id (world.me_of next).id node) refl
     on true is = sym (equal (world.me_of node).id (world.me_of next).id is)
     on false is = refl
 
-apart_stays : (next : world.Node) (nodes : List world.Node) → AllPairs AreApart nodes → AllPairs AreApart (map (world.one_for next) nodes)
+pub apart_stays : (next : world.Node) (nodes : List world.Node) → AllPairs AreApart nodes → AllPairs AreApart (map (world.one_for next) nodes)
 apart_stays next [] apart = pairs_nil AreApart
 apart_stays next (node ∷ nodes) apart =
     AllPairs-cons AreApart (world.one_for next node) (map (world.one_for next) nodes)

@@ -1,3 +1,9 @@
+pub mod Keeping
 pub mod Standing
 pub mod Placed
 pub mod Playing
+pub mod Ways
+pub mod Loading
+pub mod Delivering
+pub mod Answering
+pub mod Sending

@@ -42,3 +42,8 @@ pub record IsPlaced (id : List ℕ) (nodes : List (Node MemKeeper)) (place : ℕ
 pub record IsNowhere (id : List ℕ) (nodes : List (Node MemKeeper)) : Type 0 where
   pub absent : (config : Config) (stoods : List world.Node) → AllStand config nodes stoods
       → find (world.has_id id) stoods ≡ None
+
+-- some node there has the id
+pub record IsSomewhere (id : List ℕ) (nodes : List (Node MemKeeper)) : Type 0 where
+  pub place : ℕ
+  pub placed : IsPlaced id nodes place

@@ -7,6 +7,7 @@ use Rattle.sds_types.specs.declared.config.Config.{Config}
 use Rattle.sds_types.specs.declared.world_event.WorldEvent.{WorldEvent}
 use Rattle.sds_trade.specs.rules.Sound.{IsSound}
 use Rattle.sds_history.specs.world.Events.{happened}
+use Rattle.sds_history.specs.world.Happened.{Happened}
 use Rattle.sds_history.specs.world.Worlds.{World}
 use Rattle.sds_node.specs.Meaning.{IsNode}
 use Rattle.sds_node.specs.declared.node.Node.{Node}
@@ -24,6 +25,11 @@ pub record IsStage (stage : Stage) : Type 0 where
 pub record PlaysWorld (stage : Stage) (world : World) : Type 0 where
   pub nodes : AllStand stage.config stage.nodes.items world.nodes
   pub apart : AllPairs AreApart world.nodes
+
+-- what happens goes as in a world, and what it prints is written
+pub record HasGone (old new : Stage) (before after : List ℕ) (happening : Happened) : Type 0 where
+  pub plays : PlaysWorld new happening.world
+  pub writes : after ≡ before ++ text_of_happened old.config happening
 
 -- an event goes as in the world, and what it prints is written
 pub record HasPlayed (old new : Stage) (before after : List ℕ) (world : World) (event : WorldEvent)

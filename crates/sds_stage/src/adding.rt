@@ -25,6 +25,8 @@ impl Stage {
         requires stage { IsStage self.old }
         requires names { IsTrue (is_named_peer me) }
         ensures stage { IsStage self.new }
+        ensures config { self.new.config ≡ self.old.config }
+        ensures noise { self.new.noise ≡ self.old.noise }
         ensures plays { OnOk result ((world : World) → PlaysWorld self.old world
             → node_at world me.id ≡ None
             → HasPlayed self.old self.new [] [] world (event.Node me)) }

@@ -14,7 +14,7 @@ ghost use Rattle.sds_history.specs.world.Registering.{join_at, open_at, register
 ghost use Rattle.sds_history.specs.world.Worlds.{Node as Stood, me_of};
 ghost use Rattle.sds_nodelaws.specs.Asked.{are_spelt, is_ack, is_named_peer, is_noise};
 ghost use Rattle.sds_imagelaws.specs.Widths.{IsHeldAck};
-ghost use Rattle.sds_node.specs.Meaning.{IsNode};
+ghost use Rattle.sds_node.specs.Meaning.{IsNode, has};
 ghost use Rattle.sds_stage.specs.Standing.{Goes};
 
 use crate::memory::{
@@ -52,6 +52,8 @@ pub(crate) fn register_at(
     ensures node { IsNode IsKeptOpen kept_told node.new }
     ensures goes { IfOk result (λ answer. (other : Stood) → me_of other ≡ asks.now
         → Goes node.old node.new answer (λ config stood. register_at config stood other)) }
+    ensures token { IfOk result (λ answer. IfOk answer (λ token. IsTrue (is_token token))) }
+    ensures still { (has node.new).me ≡ (has node.old).me }
 {
     unless_registering_lacks(node.register(asks))
 }

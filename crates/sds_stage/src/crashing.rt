@@ -29,6 +29,8 @@ impl Stage {
     pub fn crash(&mut self, id: &str, out: &mut Vec<u8>) -> Result<(), NoMemory>
         requires stage { IsStage self.old }
         ensures stage { OnOk result (IsStage self.new) }
+        ensures config { self.new.config ≡ self.old.config }
+        ensures noise { self.new.noise ≡ self.old.noise }
         ensures plays { OnOk result (Plays self.old self.new out.old.items out.new.items
             (event.Crash (chars id.now))) }
     {
@@ -46,6 +48,8 @@ impl Stage {
     pub fn fault(&mut self, id: &str, stands: bool) -> Result<(), NoMemory>
         requires stage { IsStage self.old }
         ensures stage { OnOk result (IsStage self.new) }
+        ensures config { self.new.config ≡ self.old.config }
+        ensures noise { self.new.noise ≡ self.old.noise }
         ensures plays { OnOk result (Plays self.old self.new [] [] (event.Fault (chars id.now) stands)) }
     {
         let Some(place) = place_in(&self.nodes, id) else {

@@ -3,7 +3,7 @@ ghost use Rattle.std.specs.Prelude.{◌≡◌, IfOk};
 ghost use Rattle.sds_commit.specs.Ends.{LacksMemory};
 
 use sds_base::NoMemory;
-use sds_types::{AckRefusal, NodeFault, RegRefusal, WriteRefusal};
+use sds_types::{AckRefusal, NodeFault, PeerRefusal, RegRefusal, WriteRefusal};
 
 /// The result of a call that has to do with a registration.
 pub(crate) fn unless_registering_lacks<T: Drop>(
@@ -49,6 +49,18 @@ pub(crate) fn unless_lacking<T: Drop>(
 {
     match end {
         Err(NodeFault::NoMemory) => Err(NoMemory),
+        answer => Ok(answer),
+    }
+}
+
+/// The result of a call that has to do with a peer.
+pub(crate) fn unless_loading_lacks<T: Drop>(
+    end: Result<T, PeerRefusal>,
+) -> Result<Result<T, PeerRefusal>, NoMemory>
+    ensures { IfOk result (λ answer. (answer ≡ end) × (LacksMemory PeerRefusal.Fault end → ⊥)) }
+{
+    match end {
+        Err(PeerRefusal::Fault(NodeFault::NoMemory)) => Err(NoMemory),
         answer => Ok(answer),
     }
 }

@@ -23,6 +23,8 @@ impl Stage {
     pub fn show(&mut self, id: &str, out: &mut Vec<u8>) -> Result<(), NoMemory>
         requires stage { IsStage self.old }
         ensures stage { IsStage self.new }
+        ensures config { self.new.config ≡ self.old.config }
+        ensures noise { self.new.noise ≡ self.old.noise }
         ensures plays { OnOk result (Plays self.old self.new out.old.items out.new.items
             (event.Show (chars id.now))) }
     {
@@ -36,6 +38,8 @@ impl Stage {
     pub fn batches(&mut self, id: &str, out: &mut Vec<u8>) -> Result<(), NoMemory>
         requires stage { IsStage self.old }
         ensures stage { IsStage self.new }
+        ensures config { self.new.config ≡ self.old.config }
+        ensures noise { self.new.noise ≡ self.old.noise }
         ensures plays { OnOk result (Plays self.old self.new out.old.items out.new.items
             (event.Batches (chars id.now))) }
     {
@@ -76,6 +80,7 @@ pub(crate) fn settle_at(node: &mut Node<MemKeeper>) -> Result<(), NoMemory>
     requires { IsNode IsKeptOpen kept_told node.old }
     ensures node { IsNode IsKeptOpen kept_told node.new }
     ensures sure { OnOk result (node.new.sure ≡ true) }
+    ensures config { node.new.config ≡ node.old.config }
     ensures stands { OnOk result ((config : types.Config) (stood : Stood)
         → Stands config node.old stood → Stands config node.new stood) }
 {

@@ -56,6 +56,8 @@ impl Stage {
         requires asked { IsTrue (is_name_text (chars group.now)
             && (is_name_text (chars external.now) && is_noise self.old.noise)) }
         ensures stage { IsStage self.new }
+        ensures config { self.new.config ≡ self.old.config }
+        ensures noise { self.new.noise ≡ self.old.noise }
         ensures plays { OnOk result (Plays self.old self.new out.old.items out.new.items
             (event.Open (chars id.now) (chars group.now) (chars external.now))) }
     {
@@ -78,6 +80,8 @@ impl Stage {
         requires stage { IsStage self.old }
         requires asked { IsTrue (is_name_text (chars writer.now) && are_spelt rows.now) }
         ensures stage { IsStage self.new }
+        ensures config { self.new.config ≡ self.old.config }
+        ensures noise { self.new.noise ≡ self.old.noise }
         ensures plays { OnOk result (Plays self.old self.new out.old.items out.new.items
             (event.Write (chars id.now) (chars writer.now) number rows.now)) }
     {
@@ -92,6 +96,8 @@ impl Stage {
     pub fn route(&mut self, id: &str, out: &mut Vec<u8>) -> Result<(), NoMemory>
         requires stage { IsStage self.old }
         ensures stage { IsStage self.new }
+        ensures config { self.new.config ≡ self.old.config }
+        ensures noise { self.new.noise ≡ self.old.noise }
         ensures plays { OnOk result (Plays self.old self.new out.old.items out.new.items
             (event.Route (chars id.now))) }
     {

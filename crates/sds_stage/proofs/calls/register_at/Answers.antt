@@ -7,6 +7,7 @@ use Rattle.sds_nodelaws.specs.Calls.Call.{Register}
 use Rattle.sds_node.proofs.Endings.{ended_reg}
 use Rattle.sds_stage.specs.Standing.{Goes}
 use Rattle.sds_stage.proofs.Called.{goes_by, if_ok}
+use Rattle.sds_stage.proofs.Registered.{gives_token}
 use Rattle.sds_stage.proofs.calls.register_at.Goals as goal
 
 pub returns-clause-goes : goal.returns-clause-goes
@@ -17,3 +18,8 @@ returns-clause-goes c =
     c.register.ensures.node c.register.ensures.still c.register.ensures.goes c.unless_registering_lacks.ensures)
     (λ told goes other is. subst (λ me. Goes c.args.node.now c.register.new.self told (λ config stood. call Fault stood
     (register_act config (state_in config stood) me) (register_answer config (state_in config stood) me))) (sym is) goes)
+
+pub returns-clause-token : goal.returns-clause-token
+returns-clause-token c =
+    gives_token c.args.node.now c.register.new.self c.args.asks.now c.register.result c.unless_registering_lacks.result c.register.ensures.goes
+    c.unless_registering_lacks.ensures
