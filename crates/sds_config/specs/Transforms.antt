@@ -140,13 +140,36 @@ has_keys Load policy table columns = true
 has_keys Extract policy table columns =
     list_any (λ column. column.pk) columns || (is_implied policy && list_any (key_stays table columns) table.key)
 
+-- the key column of the table at this place has this name
+abbrev pub is_key_named : TableDef → List ℕ → ℕ → Bool
+is_key_named table name place = elim (slice_get table.columns place) [
+  | None ↦ false
+  | Some key ↦ bytes_eq key.name name
+]
+
+-- a column is for a key: it is a key of the made row, or it is made in place of a key column of the source
+abbrev pub is_for_key : TableDef → ColumnEntry → Bool
+is_for_key table column = column.pk || list_any (is_key_named table column.target) table.key
+
+-- Where a batch is written under the implied policy, so few columns are for keys. The new values and the old key of an update
+-- stand in one line, each with the source's columns beside the made ones, and with more columns for keys such a line could be
+-- longer than the 1,048,576 bytes that a line may have.
+abbrev pub most_columns_for_keys : ℕ
+most_columns_for_keys = 61
+
+abbrev pub are_few_for_keys : Point → ColumnPolicy → TableDef → List ColumnEntry → Bool
+are_few_for_keys Load policy table columns = true
+are_few_for_keys Extract policy table columns =
+    not (is_implied policy) || nat_le (count_by (is_for_key table) columns) most_columns_for_keys
+
 -- what has to hold of a transform's columns, beside the forms of their expressions
 abbrev pub is_sound : Point → ColumnPolicy → TableDef → List ColumnEntry → Bool
 is_sound point policy table columns =
     list_all (is_column_sound point policy table) columns
     && (nat_le (count_by (λ column. column.pk) columns) 32
     && (has_keys point policy table columns
-    && are_apart columns))
+    && (are_apart columns
+    && are_few_for_keys point policy table columns)))
 
 -- the columns of entries that are known and sound; an expression that isn't of its form is refused last
 abbrev pub formed : List ℕ → Option (List TransformColumn) → Result (List TransformColumn) ConfigRefusal

@@ -58,6 +58,7 @@ pub fn is_sound(
         && are_keys_few(columns)
         && has_keys(point, policy, table, columns)
         && are_apart(columns)
+        && are_few_for_keys(point, policy, table, columns)
 }
 
 fn are_columns_sound(
@@ -208,6 +209,56 @@ fn is_removed(columns: &[ColumnEntry], name: &Txt) -> bool
     columns
         .iter()
         .any(|column| is_remove(column.kind) && column.target == *name)
+}
+
+/// Whether so few columns are for keys that a line of a batch has room for them.
+fn are_few_for_keys(
+    point: Point,
+    policy: ColumnPolicy,
+    table: &TableDef,
+    columns: &[ColumnEntry],
+) -> bool
+    ensures { result ≡ wanted.are_few_for_keys point policy table.now columns.now }
+{
+    match point {
+        Point::Load => true,
+        Point::Extract => !is_implied(policy) || count_for_keys(table, columns) <= 61,
+    }
+}
+
+fn count_for_keys(table: &TableDef, columns: &[ColumnEntry]) -> usize
+    ensures { result ≡ count_by (wanted.is_for_key table.now) columns.now }
+{
+    columns
+        .iter()
+        .filter(|column| is_for_key(table, column))
+        .count()
+}
+
+/// Whether a column is a key of the made row, or made in place of a key column of the source.
+fn is_for_key(table: &TableDef, column: &ColumnEntry) -> bool
+    ensures { result ≡ wanted.is_for_key table.now column.now }
+{
+    column.pk || has_key_named(table, &column.target)
+}
+
+fn has_key_named(table: &TableDef, name: &Txt) -> bool
+    ensures { result ≡ list_any (wanted.is_key_named table.now name.now) table.now.key }
+{
+    table
+        .key
+        .inner()
+        .iter()
+        .any(|place| is_key_named(table, name, *place))
+}
+
+fn is_key_named(table: &TableDef, name: &Txt, place: u32) -> bool
+    ensures { result ≡ wanted.is_key_named table.now name.now place }
+{
+    match table.columns.inner().as_slice().get(place as usize) {
+        None => false,
+        Some(key) => key.name == *name,
+    }
 }
 
 fn are_apart(columns: &[ColumnEntry]) -> bool

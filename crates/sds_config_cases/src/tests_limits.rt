@@ -332,6 +332,93 @@ fn a_transform_has_at_most_so_many_columns_and_keys(rt: HostRuntime) -> Result<(
     Ok(())
 }
 
+/// Transforms of a table with 64 key columns: the point, the policy, columns in front, how many columns in place of key columns
+/// follow them, and the answer.
+const FOR_KEYS: &[(&str, &str, &str, u32, &str)] = &[
+    ("EXTRACT", "IMPLIED", "", 61, "ok"),
+    ("EXTRACT", "IMPLIED", "", 62, "8 transform[0]"),
+    ("EXTRACT", "IMPLIED", "", 64, "8 transform[0]"),
+    // A key of the made row is for a key wherever it stands.
+    (
+        "EXTRACT",
+        "IMPLIED",
+        r#"{target="own", pk=true, type="const"}, "#,
+        60,
+        "ok",
+    ),
+    (
+        "EXTRACT",
+        "IMPLIED",
+        r#"{target="own", pk=true, type="const"}, "#,
+        61,
+        "8 transform[0]",
+    ),
+    // What is no key doesn't count.
+    (
+        "EXTRACT",
+        "IMPLIED",
+        r#"{target="a", type="const"}, {target="b", type="const"}, {target="d", type="const"}, "#,
+        61,
+        "ok",
+    ),
+    // Each column counts, also two of one target.
+    (
+        "EXTRACT",
+        "IMPLIED",
+        r#"{target="c63", type="const", include_on="I"}, {target="c63", type="remove", include_on="U"}, "#,
+        59,
+        "ok",
+    ),
+    (
+        "EXTRACT",
+        "IMPLIED",
+        r#"{target="c63", type="const", include_on="I"}, {target="c63", type="remove", include_on="U"}, "#,
+        60,
+        "8 transform[0]",
+    ),
+    // Another policy and another point have no such limit.
+    (
+        "EXTRACT",
+        "SPECIFIED",
+        r#"{target="own", pk=true, type="const"}, "#,
+        63,
+        "ok",
+    ),
+    ("LOAD", "IMPLIED", "", 64, "ok"),
+    ("LOAD", "SPECIFIED", "", 64, "ok"),
+];
+
+/// A file with such a transform.
+fn replacing(
+    alloc: Global,
+    point: &str,
+    policy: &str,
+    front: &str,
+    count: u32,
+) -> Result<String, NoMemory> {
+    let keys = entries(alloc, r#""c<r> INTEGER KEY""#, 64, 2_000)?;
+    let columns = entries(alloc, r#"{target="c<r>", type="const"}"#, count, 2_000)?;
+    let keys = keys.as_str();
+    let columns = columns.as_str();
+    Ok(format!(in alloc;
+        "version = 1\ngroup = [{{id=\"g\"}}]\nlink = [{{source=\"g\", target=\"g\", action=\"P\"}}]\ntable = [{{id=\"t\", columns=[{keys}]}}]\ntransform = [{{id=\"m\", source_group=\"g\", target_group=\"g\", point=\"{point}\", source_table=\"t\", target_table=\"t\", column_policy=\"{policy}\", column=[{front}{columns}]}}]\n"
+    )?)
+}
+
+#[test]
+fn a_batchs_transform_has_few_columns_for_keys(rt: HostRuntime) -> Result<(), Fail> {
+    let alloc = rt.alloc();
+    for (point, policy, front, count, wanted) in FOR_KEYS {
+        let file = replacing(alloc, point, policy, front, *count)?;
+        assert_eq!(rt;
+            answer(alloc, file.as_bytes())?.as_str(),
+            *wanted,
+            "{point} {policy} {front}{count}"
+        );
+    }
+    Ok(())
+}
+
 #[test]
 fn a_columns_expression_has_at_most_two_thousand_characters(rt: HostRuntime) -> Result<(), Fail> {
     let alloc = rt.alloc();

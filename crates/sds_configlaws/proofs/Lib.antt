@@ -8,6 +8,7 @@ pub mod SoundColumns
 pub mod SoundKeys
 pub mod SoundTables
 pub mod SoundEvents
+pub mod FewKeys
 pub mod SoundTransforms
 pub mod SoundFiles
 pub mod Total

@@ -1,14 +1,15 @@
--- Every configuration that a file writes is sound.
-use Rattle.std.proofs.Common.{◌≡◌, ℕ, List, [], Ok, Result, sym, subst}
+-- Every configuration that a file writes is sound, and its transforms have few columns for keys.
+use Rattle.std.proofs.Common.{◌≡◌, ℕ, List, [], All, sym, subst}
 use Rattle.std.specs.Prelude.{codes}
 use Rattle.toml.specs.Data.{Members}
+use Rattle.sds_doclaws.specs.Writable.{HasFewKeys}
 use Rattle.sds_trade.specs.rules.Sound.{IsSound}
-use Rattle.sds_trade.specs.sound.Conflicts.{AreConflicts, IsConflict}
-use Rattle.sds_trade.specs.sound.Routers.{AreRouters, IsRouter}
+use Rattle.sds_trade.specs.sound.Conflicts.{IsConflict}
+use Rattle.sds_trade.specs.sound.Routers.{IsRouter}
 use Rattle.sds_trade.specs.sound.Sections.{AreChannels, AreGroups, AreLinks}
 use Rattle.sds_trade.specs.sound.Tables.{AreTableDefs}
-use Rattle.sds_trade.specs.sound.Transforms.{AreTransforms, IsTransform}
-use Rattle.sds_trade.specs.sound.Triggers.{AreTriggerRouters, AreTriggers, IsTrigger, IsTriggerRouter}
+use Rattle.sds_trade.specs.sound.Transforms.{IsTransform}
+use Rattle.sds_trade.specs.sound.Triggers.{IsTrigger, IsTriggerRouter}
 use Rattle.sds_types.specs.declared.channel.ChannelDef.{ChannelDef}
 use Rattle.sds_types.specs.declared.config.Config.{Config}
 use Rattle.sds_types.specs.declared.conflict.ConflictDef.{ConflictDef}
@@ -19,7 +20,7 @@ use Rattle.sds_types.specs.declared.trigger.TriggerDef.{TriggerDef}
 use Rattle.sds_types.specs.declared.trigger.TriggerRouterDef.{TriggerRouterDef}
 use Rattle.sds_value.specs.declared.table.TableDef.{TableDef}
 use Rattle.sds_config.specs.Channels.{channel_of}
-use Rattle.sds_config.specs.Configuration.{IsConfiguration, all_sections, config_of, empty, file_keys, up_to_pairs, up_to_tables, with_channels, with_conflicts, with_groups, with_links, with_routers, with_tables, with_transforms, with_trigger_routers, with_triggers}
+use Rattle.sds_config.specs.Configuration.{IsConfiguration, all_sections, config_of, empty, file_keys, up_to_pairs, up_to_tables, with_conflicts, with_routers, with_transforms, with_trigger_routers, with_triggers}
 use Rattle.sds_config.specs.Conflicts.{conflict_of}
 use Rattle.sds_config.specs.Fields.{number_at, only_keys}
 use Rattle.sds_config.specs.Groups.{group_of}
@@ -221,7 +222,12 @@ whole before first triggers routers pairs transforms conflicts are_triggers are_
       };
     }
 
-sections_sound : (file : Members) (config : Config) → all_sections file ≡ gives config → IsSound config
+-- what holds of a configuration that a file writes
+record IsWritten (config : Config) : Type 0 where
+  sound : IsSound config
+  few_keys : All (HasFewKeys config) config.transforms
+
+sections_sound : (file : Members) (config : Config) → all_sections file ≡ gives config → IsWritten config
 sections_sound file config is =
     gave (up_to_pairs file) _ config is (λ before before_is is.
     let so_far : ToPairs before = to_pairs file before before_is in
@@ -234,16 +240,25 @@ sections_sound file config is =
     last (section_of conflict_of 256 (codes "conflict")
     (of first.groups first.links first.channels first.tables so_far.triggers so_far.routers so_far.pairs transforms []) file)
     (λ conflicts. of first.groups first.links first.channels first.tables so_far.triggers so_far.routers so_far.pairs transforms conflicts) config is
-    (λ conflicts conflicts_is same. subst IsSound same
-    (whole so_far.before first so_far.triggers so_far.routers so_far.pairs transforms conflicts so_far.are_triggers so_far.are_routers so_far.are_pairs
-    (transforms_kept (of first.groups first.links first.channels first.tables so_far.triggers so_far.routers so_far.pairs [] []) file transforms transforms_is)
-    (conflicts_kept (of first.groups first.links first.channels first.tables so_far.triggers so_far.routers so_far.pairs transforms []) file conflicts
-    conflicts_is)))))
+    (λ conflicts conflicts_is same.
+    let are_transforms : IsKept (Transforms (of first.groups first.links first.channels first.tables so_far.triggers so_far.routers so_far.pairs [] [])) 256
+    transforms =
+    transforms_kept (of first.groups first.links first.channels first.tables so_far.triggers so_far.routers so_far.pairs [] []) file transforms transforms_is in
+    subst IsWritten same (record {
+      sound = whole so_far.before first so_far.triggers so_far.routers so_far.pairs transforms conflicts so_far.are_triggers so_far.are_routers
+          so_far.are_pairs are_transforms
+          (conflicts_kept (of first.groups first.links first.channels first.tables so_far.triggers so_far.routers so_far.pairs transforms []) file conflicts
+          conflicts_is);
+      few_keys = are_transforms.what.few_keys;
+    }))))
 
-tree_sound : (tree : Members) (config : Config) → config_of tree ≡ gives config → IsSound config
+tree_sound : (tree : Members) (config : Config) → config_of tree ≡ gives config → IsWritten config
 tree_sound tree config is =
     gave (number_at 1 1 tree [] (codes "version")) _ config is (λ version version_is is.
     gave (only_keys file_keys tree []) _ config is (λ unit listed is. sections_sound tree config is))
 
 pub files_are_sound : (file : List ℕ) (config : Config) → IsConfiguration file config → IsSound config
-files_are_sound file config (few, (tree, is_tree, answer)) = tree_sound tree config answer
+files_are_sound file config (few, (tree, is_tree, answer)) = (tree_sound tree config answer).sound
+
+pub files_have_few_keys : (file : List ℕ) (config : Config) → IsConfiguration file config → All (HasFewKeys config) config.transforms
+files_have_few_keys file config (few, (tree, is_tree, answer)) = (tree_sound tree config answer).few_keys

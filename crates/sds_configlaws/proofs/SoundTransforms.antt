@@ -1,25 +1,24 @@
 -- The transforms of a file are sound.
-use Rattle.std.proofs.Common.{◌≡◌, ◌≢◌, ℕ, zero, suc, ◌+◌, ◌<◌, ◌≤◌, Bool, true, false, cond, List, [], ◌∷◌, ◌++◌, length, map, Option, None, Some, refl, subst, All, AllPairs, sym, ap, ◌∙◌, true≢false, ◌&&◌, ◌||◌, ◌==◌, inl, inr, ◌⊎◌, arith}
+use Rattle.std.proofs.Common.{◌≡◌, ◌≢◌, ℕ, ◌+◌, ◌≤◌, Bool, true, false, cond, List, [], ◌∷◌, ◌++◌, length, map, filter, Option, None, Some, refl, subst, All, AllPairs, sym, ap, ◌∙◌, true≢false, ◌&&◌, ◌||◌, ◌==◌, inl, inr, ◌⊎◌, arith}
 use Rattle.std.specs.Bool.{IsTrue}
-use Rattle.std.specs.List.{list_any, list_all, sum_by, count_by}
+use Rattle.std.specs.List.{list_any, list_all, count_by}
 use Rattle.std.specs.Option.{IsSomeAnd, option_map_or}
-use Rattle.std.specs.Prelude.{codes, if◌then◌else◌, option_map, option_and_then, slice_get, nat_le, not}
+use Rattle.std.specs.Prelude.{codes, if◌then◌else◌, option_map, slice_get, nat_le, not}
 use Rattle.std.specs.Str.{bytes_eq, chars, encode_utf8_all}
-use Rattle.std.proofs.lemmas.Bool.Decides.{nat_tests}
 use Rattle.std.proofs.lemmas.List.{length-map}
 use Rattle.std.proofs.lemmas.List.Elements.{All-nil, All-cons}
-use Rattle.std.proofs.lemmas.List.Folds.{list_all-map}
 use Rattle.std.proofs.lemmas.List.Kept.{AllPairs-cons}
 use Rattle.std.proofs.lemmas.List.Sums.{AllPass-from_list_all, sum_by-cons}
 use Rattle.std.proofs.lemmas.Option.{option_and_then_some}
 use Rattle.std.proofs.lemmas.Slice.Eq.{bytes_eq-Decides}
 use Rattle.toml.specs.Data.{Data, Members, get_member}
+use Rattle.sds_doclaws.specs.Writable.{HasFewKeys, is_for_key, most_key_columns}
 use Rattle.sds_trade.proofs.Lists.{all_head, all_tail}
 use Rattle.sds_trade.proofs.ReferenceLaws.{both_left, both_right}
 use Rattle.sds_trade.specs.rules.ColumnFunctions as rule
 use Rattle.sds_trade.specs.rules.Expressions as says
 use Rattle.sds_trade.specs.rules.MadeSides as made
-use Rattle.sds_trade.specs.rules.Places.{column_name, column_place, has_column, is_key_place}
+use Rattle.sds_trade.specs.rules.Places.{column_place, has_column, is_key_place, table_named}
 use Rattle.sds_trade.specs.sound.TransformColumns as sound
 use Rattle.sds_trade.specs.sound.TransformColumns.{IsColumnKnown, IsTransformColumn, clash, takes_sums}
 use Rattle.sds_trade.specs.sound.Transforms.{FitsTable, IsTransform, has_key, is_pk, key_remains, removes_column}
@@ -28,7 +27,6 @@ use Rattle.sds_types.specs.declared.config_refusal.ConfigRefusal.{ConfigRefusal}
 use Rattle.sds_types.specs.declared.config_refusal.ConfigRefusal.TheVariants.{BadSetting, NoLink, UnknownName}
 use Rattle.sds_types.specs.declared.transform.ColumnPolicy.{ColumnPolicy}
 use Rattle.sds_types.specs.declared.transform.ColumnPolicy.TheVariants.{Specified, Implied}
-use Rattle.sds_types.specs.declared.transform.DeleteAction.TheVariants.{DelRow}
 use Rattle.sds_types.specs.declared.transform.Point.{Point}
 use Rattle.sds_types.specs.declared.transform.Point.TheVariants.{Extract, Load}
 use Rattle.sds_types.specs.declared.transform.TransformDef.{TransformDef}
@@ -43,22 +41,22 @@ use Rattle.sds_value.specs.declared.table.ColumnDef.{ColumnDef}
 use Rattle.sds_value.specs.declared.table.TableDef.{TableDef}
 use Rattle.sds_config.specs.declared.ends.Ends.{Ends}
 use Rattle.sds_config.specs.declared.formulas.ColumnEntry.{ColumnEntry}
-use Rattle.sds_config.specs.declared.formulas.Formula.{Formula}
 use Rattle.sds_config.specs.declared.formulas.Making.{Making}
 use Rattle.sds_config.specs.declared.transforms.Policies.{Policies}
 use Rattle.sds_config.specs.declared.transforms.TablePair.{TablePair}
 use Rattle.sds_config.specs.ComputedColumns.{column_expression_of, column_of, columns_of}
 use Rattle.sds_config.specs.Ends.{ends_at}
-use Rattle.sds_config.specs.Fields.{allowed, field_path, flag_at, id_at, name_at, only_keys, text_or_empty, word_at, word_or}
+use Rattle.sds_config.specs.Fields.{field_path, flag_at, id_at, name_at, only_keys, text_or_empty, word_at}
 use Rattle.sds_config.specs.Links.{leads}
 use Rattle.sds_config.specs.Refusals.{and_then}
 use Rattle.sds_config.specs.Sections.{entries_from, items_at, section_of}
 use Rattle.sds_config.specs.TransformColumns.{column_entry_of, formula_at, is_name_or_empty, making_at, name_or_empty, transform_column_keys}
 use Rattle.sds_config.specs.Transforms as wanted
-use Rattle.sds_config.specs.Transforms.{adds_well, are_apart, are_events, columns_at, formed, has_keys, is_additive, is_column_sound, is_implied, is_known, is_load, is_remove, is_removed, is_sound, is_star, judged, key_stays, known_table, own_table, policies_at, suits_key, table_pair_at, transform_keys, transform_of, whole_transform}
-use Rattle.sds_config.specs.Words.{column_policy_of, delete_action_of, point_of}
-use Rattle.sds_configlaws.proofs.Gave.{Answer, Is, gives, refuses, gave, same_value, never, no_value, below, was_allowed, name_given, all_snoc, all_mapped, pairs_snoc, no_pairs, none_passes, IsNew, new_given}
+use Rattle.sds_config.specs.Transforms.{adds_well, are_apart, are_events, are_few_for_keys, columns_at, formed, has_keys, is_additive, is_column_sound, is_implied, is_known, is_load, is_remove, is_removed, is_sound, is_star, judged, key_stays, known_table, own_table, policies_at, suits_key, table_pair_at, transform_keys, transform_of, whole_transform}
+use Rattle.sds_config.specs.Words.{point_of}
+use Rattle.sds_configlaws.proofs.Gave.{Is, gives, refuses, gave, same_value, never, no_value, below, was_allowed, name_given, all_snoc, all_mapped, pairs_snoc, no_pairs, IsNew, new_given}
 use Rattle.sds_configlaws.proofs.Kept.{Keeps, IsKept, items_few, list_kept, section_kept}
+use Rattle.sds_configlaws.proofs.FewKeys.{HasFew, HasName, entry_of, few_for_keys}
 use Rattle.sds_configlaws.proofs.SoundEvents.{events_same, events_sound}
 use Rattle.sds_configlaws.proofs.SoundRouters.{AreEnds, ends_given}
 
@@ -140,17 +138,7 @@ entries_given : (config : Config) (entry : Members) (at key : List ℕ) (entries
     → IsKept AreEntries 64 entries
 entries_given config entry at key entries is = entries_on config entry at key entries (get_member key entry) is
 
--- COLUMNS. The entry of a column: all but what its expression says
-abbrev entry_of : TransformColumn → ColumnEntry
-entry_of column = record {
-  target = column.target;
-  source = column.source;
-  pk = column.pk;
-  include_on = column.include_on;
-  kind = column.kind;
-  expression = column.expression;
-}
-
+-- COLUMNS. Each is what its entry says, with what its expression says
 abbrev IsParsed : TransformColumn → Type 0
 IsParsed column = column_expression_of column.kind column.expression ≡ Some column.parsed
 
@@ -309,9 +297,9 @@ record IsSoundEntry (point : Point) (policy : ColumnPolicy) (def : TableDef) (co
   removes : (not (is_remove column.kind) || is_implied policy) ≡ true
   adds : (not (is_additive column.kind) || (is_load point && (not column.pk && wanted.takes_sums def column.target))) ≡ true
 
-sound_parts : (a b c d e : Bool) → (a && (b && (c && (d && e)))) ≡ true → {G : Type 0}
+parts_of : (a b c d e : Bool) → (a && (b && (c && (d && e)))) ≡ true → {G : Type 0}
     → (a ≡ true → b ≡ true → c ≡ true → d ≡ true → e ≡ true → G) → G
-sound_parts a b c d e is parts =
+parts_of a b c d e is parts =
     let p : (b && (c && (d && e))) ≡ true = both_right a (b && (c && (d && e))) is in
     let q : (c && (d && e)) ≡ true = both_right b (c && (d && e)) p in
     let r : (d && e) ≡ true = both_right c (d && e) q in
@@ -320,7 +308,7 @@ sound_parts a b c d e is parts =
 sound_entry : (point : Point) (policy : ColumnPolicy) (def : TableDef) (column : TransformColumn)
     → is_column_sound point policy def (entry_of column) ≡ true → IsSoundEntry point policy def column
 sound_entry point policy def column is =
-    sound_parts (are_events (encode_utf8_all column.include_on))
+    parts_of (are_events (encode_utf8_all column.include_on))
     (not column.pk || (is_star (encode_utf8_all column.include_on) && not (is_remove column.kind)))
     (nat_le (length column.expression) 2000) (not (is_remove column.kind) || is_implied policy)
     (not (is_additive column.kind) || (is_load point && (not column.pk && wanted.takes_sums def column.target))) is
@@ -486,6 +474,7 @@ record AreTheColumns (point : Point) (policy : ColumnPolicy) (def : TableDef) (c
   keyed : has_key point policy def columns ≡ true
   few : length columns ≤ 64
   apart : AllPairs Apart columns
+  few_keys : HasFew point policy def columns
 
 each_sound : (point : Point) (policy : ColumnPolicy) (def : TableDef) (columns : List TransformColumn)
     → All (λ c. IsEntry (entry_of c)) columns → All IsParsed columns → All (λ c. is_known point def (entry_of c) ≡ true) columns
@@ -505,34 +494,25 @@ whole_by : (point : Point) (policy : ColumnPolicy) (def : TableDef) (columns : L
     → All IsParsed columns → list_all (is_known point def) (map entry_of columns) ≡ true → is_sound point policy def (map entry_of columns) ≡ true
     → AreTheColumns point policy def columns
 whole_by point policy def columns kept parsed known is =
-    let entries : List ColumnEntry = map entry_of columns in
-    let rest : (nat_le (count_by (λ (entry : ColumnEntry). entry.pk) (map entry_of columns)) 32
-    && (has_keys point policy def (map entry_of columns) && are_apart (map entry_of columns))) ≡ true =
-    both_right (list_all (is_column_sound point policy def) (map entry_of columns))
-    (nat_le (count_by (λ (entry : ColumnEntry). entry.pk) (map entry_of columns)) 32
-    && (has_keys point policy def (map entry_of columns) && are_apart (map entry_of columns))) is in
-    let last : (has_keys point policy def (map entry_of columns) && are_apart (map entry_of columns)) ≡ true =
-    both_right (nat_le (count_by (λ (entry : ColumnEntry). entry.pk) (map entry_of columns)) 32)
-    (has_keys point policy def (map entry_of columns) && are_apart (map entry_of columns)) rest in
+    let named : All (λ c. IsEntry (entry_of c)) columns = unmapped IsEntry entry_of columns kept.what in
+    parts_of (list_all (is_column_sound point policy def) (map entry_of columns))
+    (nat_le (count_by (λ (entry : ColumnEntry). entry.pk) (map entry_of columns)) 32) (has_keys point policy def (map entry_of columns))
+    (are_apart (map entry_of columns)) (are_few_for_keys point policy def (map entry_of columns)) is (λ all_sound few_pk has_key apart few_keys.
     let each : All (IsSoundEntry point policy def) columns =
     all_mapped (λ c. is_column_sound point policy def (entry_of c) ≡ true) (IsSoundEntry point policy def) columns
     (λ c s. sound_entry point policy def c s)
     (unmapped (λ e. is_column_sound point policy def e ≡ true) entry_of columns
-    (AllPass-from_list_all (is_column_sound point policy def) (map entry_of columns)
-    (both_left (list_all (is_column_sound point policy def) (map entry_of columns))
-    (nat_le (count_by (λ (entry : ColumnEntry). entry.pk) (map entry_of columns)) 32
-    && (has_keys point policy def (map entry_of columns) && are_apart (map entry_of columns))) is))) in
+    (AllPass-from_list_all (is_column_sound point policy def) (map entry_of columns) all_sound)) in
     record {
-      each = each_sound point policy def columns (unmapped IsEntry entry_of columns kept.what) parsed
+      each = each_sound point policy def columns named parsed
           (unmapped (λ e. is_known point def e ≡ true) entry_of columns (AllPass-from_list_all (is_known point def) (map entry_of columns) known)) each;
-      keys = subst (λ n. n ≤ 32) (counts_same columns) (below (count_by (λ (entry : ColumnEntry). entry.pk) (map entry_of columns)) 32
-          (both_left (nat_le (count_by (λ (entry : ColumnEntry). entry.pk) (map entry_of columns)) 32)
-          (has_keys point policy def (map entry_of columns) && are_apart (map entry_of columns)) rest));
-      keyed = keyed point policy def columns (both_left (has_keys point policy def (map entry_of columns)) (are_apart (map entry_of columns)) last);
+      keys = subst (λ n. n ≤ 32) (counts_same columns) (below (count_by (λ (entry : ColumnEntry). entry.pk) (map entry_of columns)) 32 few_pk);
+      keyed = keyed point policy def columns has_key;
       few = few_by (length columns) (length (map entry_of columns)) (length-map columns entry_of) kept.few;
-      apart = columns_apart columns (all_mapped (IsSoundEntry point policy def) HasEvents columns (λ c s. s.events) each)
-          (both_right (has_keys point policy def (map entry_of columns)) (are_apart (map entry_of columns)) last);
-    }
+      apart = columns_apart columns (all_mapped (IsSoundEntry point policy def) HasEvents columns (λ c s. s.events) each) apart;
+      few_keys = few_for_keys point policy def columns
+          (all_mapped (λ c. IsEntry (entry_of c)) HasName columns (λ c entry. entry.target) named) few_keys;
+    })
 
 formed_on : (point : Point) (policy : ColumnPolicy) (def : TableDef) (at : List ℕ) (entries : List ColumnEntry) (columns : List TransformColumn)
     (found : Option (List TransformColumn)) → IsKept AreEntries 64 entries → list_all (is_known point def) entries ≡ true
@@ -603,9 +583,10 @@ IdsApart a b = a.id ≢ b.id
 pub record Transforms (config : Config) (transforms : List TransformDef) : Type 0 where
   pub each : All (IsTransform config) transforms
   pub apart : AllPairs IdsApart transforms
+  pub few_keys : All (HasFewKeys config) transforms
 
 no_transforms : (config : Config) → Transforms config []
-no_transforms config = record { each = All-nil (IsTransform config); apart = no_pairs IdsApart }
+no_transforms config = record { each = All-nil (IsTransform config); apart = no_pairs IdsApart; few_keys = All-nil (HasFewKeys config) }
 
 abbrev made_transform : List ℕ → Ends → TablePair → Policies → List TransformColumn → TransformDef
 made_transform id ends way policies columns = record {
@@ -636,6 +617,21 @@ apart_on : (point : Point) (policy : ColumnPolicy) (columns : List TransformColu
 apart_on point policy columns None is = absurd is
 apart_on point policy columns (Some def) is = is.apart
 
+few_keys_on : (policy : ColumnPolicy) (columns : List TransformColumn) (found : Option TableDef)
+    → IsSomeAnd found (λ def. AreTheColumns Extract policy def columns) → policy ≡ Implied
+    → IsSomeAnd found (λ (def : TableDef). length (filter (is_for_key def) columns) ≤ most_key_columns)
+few_keys_on policy columns None is implied = is
+few_keys_on policy columns (Some def) is implied = is.few_keys refl implied
+
+-- a transform that isn't made as a batch is written needs no source table
+few_keys_by : (config : Config) (point : Point) (source target : List ℕ) (policy : ColumnPolicy) (columns : List TransformColumn)
+    → IsSomeAnd (table_named config.tables (own_table (record { point = point; source_table = source; target_table = target })))
+    (λ def. AreTheColumns point policy def columns) → point ≡ Extract → policy ≡ Implied
+    → IsSomeAnd (table_named config.tables source) (λ (def : TableDef). length (filter (is_for_key def) columns) ≤ most_key_columns)
+few_keys_by config Extract source target policy columns is point_is implied =
+    few_keys_on policy columns (table_named config.tables source) is implied
+few_keys_by config Load source target policy columns is point_is implied = absurd (true≢false (ap is_load point_is))
+
 transform_more : (config : Config) (earlier : List TransformDef) (id : List ℕ) (ends : Ends) (way : TablePair) (policies : Policies)
     (columns : List TransformColumn) (new : TransformDef) → Transforms config earlier → IsNew (λ transform. transform.id) earlier id
     → AreEnds config.groups ends → AreNamed way → IsWhole config ends way policies columns
@@ -654,6 +650,8 @@ transform_more config earlier id ends way policies columns new are named placed 
         table = fits_on id ends way policies columns (known_table config way) whole.judged;
       });
       apart = pairs_snoc IdsApart earlier (made_transform id ends way policies columns) are.apart named.apart;
+      few_keys = all_snoc (HasFewKeys config) earlier (made_transform id ends way policies columns) are.few_keys
+          (few_keys_by config way.point way.source_table way.target_table policies.column_policy columns whole.judged);
     })
 
 transforms_keep : (config : Config) → Keeps config transform_of (Transforms config)

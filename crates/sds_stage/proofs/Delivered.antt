@@ -95,8 +95,7 @@ pub loads_all : (config : Config) (sender : State) (to : List ℕ) (parts : List
 loads_all config sender to parts channels places stood stands acks held refusal answer order goes is =
     let placed : loads_from config sender to parts channels stood
     ≡ delivered_batches config sender (delivery_with stood [] [] None) (at_places (batches_in_parts sender to parts) places) =
-    ap (λ (batches : List (ℕ × OutBatch)). delivered_batches config sender (delivery_with stood [] [] None) batches) order in
-    (
+    ap (λ (batches : List (ℕ × OutBatch)). delivered_batches config sender (delivery_with stood [] [] None) batches) order in (
       subst (λ (d : Delivery). stands d.node) (sym placed) goes.0,
       is ∙ (same_answer refusal ∙ ap (λ (d : Delivery). answer_of sender to parts d d.refusal) (goes.1 ∙ sym placed)),
     )

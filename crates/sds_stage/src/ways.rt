@@ -75,22 +75,15 @@ fn has_link(config: &Config, action: Action, from: &str, to: &str) -> bool
 fn has_push(config: &Config, from: &str, to: &str) -> bool
     ensures { result ≡ links.has_push config.now (chars from.now) (chars to.now) }
 {
-    config
-        .links
-        .inner()
-        .iter()
-        .any(|link| pushes(link.action) && link_leads(config, link, from, to))
+    config.links.inner().iter().any(|link| pushes(link.action)
+        && link_leads(config, link, from, to))
 }
 
 /// Whether a link that waits for a pull leads from one group to another.
 fn has_pull(config: &Config, from: &str, to: &str) -> bool
     ensures { result ≡ links.has_pull config.now (chars from.now) (chars to.now) }
 {
-    config
-        .links
-        .inner()
-        .iter()
-        .any(|link| waits(link.action) && link_leads(config, link, from, to))
+    config.links.inner().iter().any(|link| waits(link.action) && link_leads(config, link, from, to))
 }
 
 fn pushes(action: Action) -> bool

@@ -14,19 +14,26 @@ put_message-requires-clause-few c =
 
 pub returns-then-not-may_send-clause-sends : goal.returns-then-not-may_send-clause-sends
 returns-then-not-may_send-clause-sends c = λ config stood stands.
-    let stays = c.in_ok-settle_at.ensures.stands config stood stands in
-    (stays, (sym (seen_of (λ under state. may_send under state (chars c.args.to.now)) config c.settle_at.new.node stood stays c.in_ok-settle_at.ensures.sure)
-    ∙ (sym c.may_send.ensures ∙ c.if-not-may_send.true), refl))
+    let stays = c.in_ok-settle_at.ensures.stands config stood stands in (
+      stays,
+      (
+        sym (seen_of (λ under state. may_send under state (chars c.args.to.now)) config c.settle_at.new.node stood stays c.in_ok-settle_at.ensures.sure)
+            ∙ (sym c.may_send.ensures ∙ c.if-not-may_send.true),
+        refl,
+      ),
+    )
 
 pub returns-clause-sends : goal.returns-clause-sends
 returns-clause-sends c = λ config stood stands.
-    let stays = c.in_ok-settle_at.ensures.stands config stood stands in
-    (stays, record {
-      way = sym (seen_of (λ under state. may_send under state (chars c.args.to.now)) config c.settle_at.new.node stood stays c.in_ok-settle_at.ensures.sure)
-          ∙ (sym c.may_send.ensures ∙ c.if-not-may_send.false);
-      count_is = c.in_ok-put_message.ensures.count
-          ∙ seen_of (λ under state. batch_count (parts_of under state (chars c.args.to.now) c.args.channels.now)) config c.settle_at.new.node stood stays c.in_ok-settle_at.ensures.sure;
-      text_is = c.in_ok-put_message.ensures.text
-          ∙ seen_of (λ under state. c.args.text.now.items ++ written_message under state (chars c.args.to.now) c.args.channels.now) config c.settle_at.new.node stood stays
-          c.in_ok-settle_at.ensures.sure;
-    })
+    let stays = c.in_ok-settle_at.ensures.stands config stood stands in (
+      stays,
+      record {
+        way = sym (seen_of (λ under state. may_send under state (chars c.args.to.now)) config c.settle_at.new.node stood stays c.in_ok-settle_at.ensures.sure)
+            ∙ (sym c.may_send.ensures ∙ c.if-not-may_send.false);
+        count_is = c.in_ok-put_message.ensures.count
+            ∙ seen_of (λ under state. batch_count (parts_of under state (chars c.args.to.now) c.args.channels.now)) config c.settle_at.new.node stood stays c.in_ok-settle_at.ensures.sure;
+        text_is = c.in_ok-put_message.ensures.text
+            ∙ seen_of (λ under state. c.args.text.now.items ++ written_message under state (chars c.args.to.now) c.args.channels.now) config c.settle_at.new.node stood stays
+            c.in_ok-settle_at.ensures.sure;
+      },
+    )
